@@ -1,0 +1,3 @@
+pub mod Losses
+pub mod Chains
+pub mod Claims

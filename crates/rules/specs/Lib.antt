@@ -1,0 +1,5 @@
+pub mod Lists
+pub mod Convert
+pub mod Network
+pub mod ConvertLaws
+pub mod Questions

@@ -1,0 +1,38 @@
+ghost use mathlib.Core.Path.{_≡_};
+ghost use mathlib.Core.List.{[], _∷_};
+ghost use Rattle.rules.specs.Questions.{answer-to, first-no, asked};
+
+// The answer to a question; a no says its place, 0 where it has none.
+#[derive(Clone, Copy, PartialEq, Eq, Debug)]
+pub enum Answer {
+    Yes,
+    No(usize),
+}
+
+// The first question whose answer is no, with the place.
+#[derive(Clone, Copy, PartialEq, Eq, Debug)]
+pub struct Fault<Q> {
+    pub question: Q,
+    pub place: usize,
+}
+
+// The layers of a case, each with questions of its own.
+#[derive(Clone, Copy, PartialEq, Eq, Debug)]
+pub enum Layer {
+    Text,
+    Sheet,
+    Grid,
+    Book,
+}
+
+impl Answer {
+    // The fault of a question with this answer.
+    pub fn to<Q: Copy>(self, question: Q) -> Result<(), Fault<Q>>
+        ensures { λ r. ⌜ r ≡ answer-to (first-no (asked question self ∷ [])) tt ⌝ }
+    {
+        match self {
+            Answer::Yes => Ok(()),
+            Answer::No(place) => Err(Fault { question, place }),
+        }
+    }
+}
