@@ -1,6 +1,6 @@
 ghost use mathlib.Core.Path.{_≡_};
 ghost use mathlib.Core.List.{[], _∷_};
-ghost use Rattle.rules.specs.Questions.{answer-to, first-no, asked};
+ghost use Rattle.rules.specs.Questions.{answer-to, answered, first-no, asked};
 
 // The answer to a question; a no says its place, 0 where it has none.
 #[derive(Clone, Copy, PartialEq, Eq, Debug)]
@@ -26,6 +26,13 @@ pub enum Layer {
 }
 
 impl Answer {
+    // The answer to a question that has no place.
+    pub fn when(holds: bool) -> Answer
+        ensures { λ r. ⌜ r ≡ answered holds ⌝ }
+    {
+        if holds { Answer::Yes } else { Answer::No(0) }
+    }
+
     // The fault of a question with this answer.
     pub fn to<Q: Copy>(self, question: Q) -> Result<(), Fault<Q>>
         ensures { λ r. ⌜ r ≡ answer-to (first-no (asked question self ∷ [])) tt ⌝ }

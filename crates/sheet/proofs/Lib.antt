@@ -1,0 +1,5 @@
+pub mod Firsts
+pub mod Chaining
+pub mod Tracing
+pub mod Keeping
+pub mod Passing

@@ -1,0 +1,16 @@
+use native.Mathlib.Omega.{arith}
+use Rattle.std.proofs.shelf.Lists.{length-map}
+use Rattle.std.proofs.shelf.Ways.{tells}
+use Rattle.sheet.proofs.sheet.Sheet.check_leg.Needs as need
+
+pub returns-then-len-ge64 : need.returns-then-len-ge64
+returns-then-len-ge64 c = grind (arith, tells, length-map)
+
+pub returns-then-from-count : need.returns-then-from-count
+returns-then-from-count c = grind (arith, tells, length-map)
+
+pub returns-then-rate-gt200000 : need.returns-then-rate-gt200000
+returns-then-rate-gt200000 c = grind (arith, tells, length-map)
+
+pub returns : need.returns
+returns c = grind (arith, tells, length-map)

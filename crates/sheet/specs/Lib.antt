@@ -1,0 +1,5 @@
+pub mod Numbers
+pub mod Views
+pub mod Asks
+pub mod Checks
+pub mod Sheets
