@@ -1,6 +1,6 @@
 ghost use mathlib.Core.Path.{_≡_};
 ghost use mathlib.Core.List.{[]};
-ghost use Prim.Native.Nat.{_<_};
+ghost use Prim.Native.Nat.{_<_, _≤_};
 ghost use lib.ListN.{length};
 ghost use Rattle.std.specs.Of.Vec.{vec-items, vec-cap};
 ghost use Rattle.std.specs.Options.{mapped};
@@ -15,7 +15,8 @@ use std::alloc::AllocError;
 // Reads the words of a line's rest as figures.
 fn read_words(rest: &[u8], into: &mut Vec<u32>) -> Result<Answer, AllocError>
     requires { ⌜ vec-items (now into) ≡ [] ⌝ }
-    ensures { λ r. ⌜ Cases r (λ answer. Reads (words (now (rest .entry))) answer (vec-items (now (into .exit)))) (λ _. vec-cap (now (into .entry)) < length (words (now (rest .entry)))) ⌝ }
+    ensures reads { λ r. ⌜ Cases r (λ answer. Reads (words (now (rest .entry))) answer (vec-items (now (into .exit)))) (λ _. vec-cap (now (into .entry)) < length (words (now (rest .entry)))) ⌝ }
+    ensures room { λ _. ⌜ vec-cap (now (into .entry)) ≤ vec-cap (now (into .exit)) ⌝ }
 {
     let mut left = rest;
     let mut place = 2;
@@ -35,7 +36,8 @@ fn read_words(rest: &[u8], into: &mut Vec<u32>) -> Result<Answer, AllocError>
 
 // Reads what follows a line's first word and its space as figures; none follow where the word stands alone.
 pub fn read_figures(rest: Option<&[u8]>, into: &mut Vec<u32>) -> Result<Answer, AllocError>
-    ensures { λ r. ⌜ Cases r (λ answer. Reads (words-of (mapped now (rest .entry))) answer (vec-items (now (into .exit)))) (λ _. vec-cap (now (into .entry)) < length (words-of (mapped now (rest .entry)))) ⌝ }
+    ensures reads { λ r. ⌜ Cases r (λ answer. Reads (words-of (mapped now (rest .entry))) answer (vec-items (now (into .exit)))) (λ _. vec-cap (now (into .entry)) < length (words-of (mapped now (rest .entry)))) ⌝ }
+    ensures room { λ _. ⌜ vec-cap (now (into .entry)) ≤ vec-cap (now (into .exit)) ⌝ }
 {
     into.clear();
     match rest {

@@ -35,4 +35,7 @@ loop-n-again c =
 pub returns-in-Break-push : need.returns-in-Break-push
 returns-in-Break-push c =
     let p = err-from-errBy (c .from-residual .result) (c .from-residual .ensures .1) in
-    rw (p .1) (omega (arith, c .in-Break-push .ensures tt .cases, c .loop-n .inv .3, c .loop-n .into .ok .0, fewer (vec-items (c .loop-n .into)) (c .loop-n .left .now) (c .args .rest .now) (c .loop-n .inv .1)))
+    record {
+      reads = rw (p .1) (omega (arith, c .in-Break-push .ensures tt .cases, c .loop-n .inv .3, c .loop-n .into .ok .0, fewer (vec-items (c .loop-n .into)) (c .loop-n .left .now) (c .args .rest .now) (c .loop-n .inv .1)));
+      room = omega (arith, c .push .ensures .capacity, c .loop-n .inv .3);
+    }
