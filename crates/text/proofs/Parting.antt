@@ -1,7 +1,7 @@
 -- Bytes parted at a mark: at its first place, where there is none, and one byte on.
 use mathlib.Core.Path.{_≡_, refl, sym, _∙_, ap}
 use mathlib.Core.List.{List, [], _∷_}
-use Prim.Native.Nat.{ℕ, zero, suc, _+_, _<_}
+use Prim.Native.Nat.{ℕ, zero, suc, _+_, _≤_, _<_}
 use native.Mathlib.Numerals.{one-add}
 use native.Mathlib.Omega.{arith}
 use lib.Dec.{eqb}
@@ -55,6 +55,12 @@ words-some m [] = omega arith
 words-some m (x ∷ xs) =
     cond-both (eqb x m) _ _ (λ ps. 0 < length ps) (λ _. omega arith)
     (λ _. omega (arith, words-some m xs, grown x (parted ([] ∷ []) m xs) (words-some m xs)))
+
+pub words-few : (m : ℕ) (xs : List ℕ) → length (parted ([] ∷ []) m xs) ≤ length xs + 1
+words-few m [] = omega arith
+words-few m (x ∷ xs) =
+    cond-both (eqb x m) _ _ (λ ps. length ps ≤ length (x ∷ xs) + 1) (λ _. omega (arith, words-few m xs))
+    (λ _. omega (arith, words-few m xs, grown x (parted ([] ∷ []) m xs) (words-some m xs)))
 
 -- a mark starts one more piece, and any other byte none
 module _ (m : ℕ) (xs : List ℕ) (i : ℕ) (inside : i < length xs) where

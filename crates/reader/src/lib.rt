@@ -1,0 +1,8 @@
+// Case text in: its lines act on a sheet, up to the first fault.
+mod enter;
+pub mod fault;
+mod line;
+mod lines;
+pub mod read;
+pub mod stage;
+mod steps;
