@@ -2,3 +2,4 @@ pub mod Order
 pub mod Faults
 pub mod Case
 pub mod Steps
+pub mod Report

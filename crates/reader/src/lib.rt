@@ -4,5 +4,6 @@ pub mod fault;
 mod line;
 mod lines;
 pub mod read;
+mod report;
 pub mod stage;
 mod steps;

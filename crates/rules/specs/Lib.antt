@@ -3,3 +3,4 @@ pub mod Convert
 pub mod Network
 pub mod ConvertLaws
 pub mod Questions
+pub mod Layers

@@ -1,5 +1,6 @@
 ghost use mathlib.Core.Path.{_≡_};
 ghost use mathlib.Core.List.{[], _∷_};
+ghost use Rattle.rules.specs.Layers.{layer-word};
 ghost use Rattle.rules.specs.Questions.{answer-to, answered, first-no, asked};
 
 // The answer to a question; a no says its place, 0 where it has none.
@@ -40,6 +41,20 @@ impl Answer {
         match self {
             Answer::Yes => Ok(()),
             Answer::No(place) => Err(Fault { question, place }),
+        }
+    }
+}
+
+impl Layer {
+    // The layer as a fault line writes it.
+    pub fn word(self) -> &'static str
+        ensures { λ r. ⌜ now r ≡ layer-word self ⌝ }
+    {
+        match self {
+            Layer::Text => "text",
+            Layer::Sheet => "sheet",
+            Layer::Grid => "grid",
+            Layer::Book => "book",
         }
     }
 }

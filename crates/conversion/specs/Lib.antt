@@ -1,0 +1,3 @@
+pub mod Bids
+pub mod Offers
+pub mod Listing
