@@ -3,3 +3,4 @@ pub mod Faults
 pub mod Case
 pub mod Steps
 pub mod Report
+pub mod Format

@@ -1,6 +1,7 @@
 // Case text in: its lines act on a sheet, up to the first fault.
 mod enter;
 pub mod fault;
+pub mod laws;
 mod line;
 mod lines;
 pub mod read;

@@ -1,7 +1,5 @@
 ghost use mathlib.Core.Path.{_≡_};
-ghost use mathlib.Core.List.{[], _∷_};
 ghost use Rattle.rules.specs.Layers.{layer-word};
-ghost use Rattle.rules.specs.Questions.{answer-to, answered, first-no, asked};
 
 // The answer to a question; a no says its place, 0 where it has none.
 #[derive(Clone, Copy, PartialEq, Eq, Debug)]
@@ -24,25 +22,6 @@ pub enum Layer {
     Sheet,
     Grid,
     Book,
-}
-
-impl Answer {
-    // The answer to a question that has no place.
-    pub fn when(holds: bool) -> Answer
-        ensures { λ r. ⌜ r ≡ answered holds ⌝ }
-    {
-        if holds { Answer::Yes } else { Answer::No(0) }
-    }
-
-    // The fault of a question with this answer.
-    pub fn to<Q: Copy>(self, question: Q) -> Result<(), Fault<Q>>
-        ensures { λ r. ⌜ r ≡ answer-to (first-no (asked question self ∷ [])) tt ⌝ }
-    {
-        match self {
-            Answer::Yes => Ok(()),
-            Answer::No(place) => Err(Fault { question, place }),
-        }
-    }
 }
 
 impl Layer {

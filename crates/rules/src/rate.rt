@@ -1,6 +1,5 @@
 ghost use mathlib.Core.Path.{_≡_};
-ghost use Prim.Native.Nat.{_≤_, _<_};
-ghost use Rattle.std.specs.Options.{Cases};
+ghost use Prim.Native.Nat.{_≤_};
 ghost use Rattle.rules.specs.Convert.{lost, passed};
 use crate::power::Watts;
 
@@ -12,15 +11,6 @@ pub struct Rate {
 }
 
 impl Rate {
-    pub fn new(millionths: u32) -> Option<Rate>
-        ensures { λ r. ⌜ Cases r (200000 < millionths) (λ x. x .millionths ≡ millionths) ⌝ }
-    {
-        if millionths > 200_000 {
-            return None;
-        }
-        Some(Rate { millionths })
-    }
-
     // The W lost of what enters, rounded up.
     fn loss(self, entering: Watts) -> Watts
         ensures value { λ r. ⌜ r .0 ≡ lost (self .millionths) (entering .0) ⌝ }
