@@ -12,7 +12,10 @@ fn bids(rt: &LibcRuntime) -> Result<Vec<Yuan>, AnyError> {
     let mut bids = Vec::new(rt.alloc());
     for word in env::args(rt)?.skip(1) {
         let Some(yuan) = bid(word.as_bytes()) else {
-            let message = format!(rt.alloc(), "{word} is no bid: write a whole number of yuan from -1000 to 10000")?;
+            let message = format!(
+                rt.alloc(),
+                "{word} is no bid: write a whole number of yuan from -1000 to 10000"
+            )?;
             return Err(message.into());
         };
         bids.push(yuan)?;

@@ -16,10 +16,13 @@ use Rattle.sheet.specs.declared.question.SheetQuestion.the-variants.{NodeCount
 abbrev pub is-mark : ℕ → Bool
 is-mark m = leb m 1
 
+abbrev pub node-figures-fit : ℕ → ℕ → ℕ → ℕ → Bool
+node-figures-fit province standalone tight congested = leb province 99 && (is-mark standalone && (is-mark tight && is-mark congested))
+
 abbrev pub node-questions : Drawing → ℕ → ℕ → ℕ → ℕ → List (Asked SheetQuestion)
 node-questions d province standalone tight congested =
     asked NodeCount (answered (ltb (length (d .nodes)) 40))
-    ∷ (asked NodeFigures (answered (leb province 99 && (is-mark standalone && (is-mark tight && is-mark congested))))
+    ∷ (asked NodeFigures (answered (node-figures-fit province standalone tight congested))
     ∷ [])
 
 -- a mark of 1 is set
@@ -32,11 +35,14 @@ with-node d n = record { nodes = d .nodes ++ (n ∷ []); legs = d .legs; paths =
 abbrev pub drawn-leg : ℕ → ℕ → ℕ → ℕ → ℕ → DrawnLeg
 drawn-leg from to rate tariff limit = record { from = from; to = to; rate = rate; tariff = tariff; limit = limit }
 
+abbrev pub leg-figures-fit : ℕ → ℕ → ℕ → Bool
+leg-figures-fit rate tariff limit = leb rate 200000 && (leb tariff 1000000 && leb limit 100000)
+
 abbrev pub leg-questions : Drawing → DrawnLeg → List (Asked SheetQuestion)
 leg-questions d l =
     asked LegCount (answered (ltb (length (d .legs)) 64))
     ∷ (asked LegNodes (answered (ltb (l .from) (length (d .nodes)) && (ltb (l .to) (length (d .nodes)) && not (eqb (l .from) (l .to)))))
-    ∷ (asked LegFigures (answered (leb (l .rate) 200000 && (leb (l .tariff) 1000000 && leb (l .limit) 100000)))
+    ∷ (asked LegFigures (answered (leg-figures-fit (l .rate) (l .tariff) (l .limit)))
     ∷ []))
 
 abbrev pub with-leg : Drawing → DrawnLeg → Drawing

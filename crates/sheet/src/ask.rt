@@ -3,7 +3,7 @@ ghost use mathlib.Core.Bool.{true};
 ghost use Prim.Native.Nat.{_<_};
 ghost use Rattle.std.specs.Of.Vec.{vec-len};
 ghost use Rattle.rules.specs.Network.{joins};
-ghost use Rattle.sheet.specs.Asks.{node-questions, leg-questions, path-questions, marked, drawn-leg};
+ghost use Rattle.sheet.specs.Asks.{node-questions, leg-questions, path-questions, marked, drawn-leg, node-figures-fit, leg-figures-fit};
 ghost use Rattle.sheet.specs.Checks.{Checked, PathOf};
 ghost use Rattle.sheet.specs.Sheets.{drawing};
 ghost use Rattle.sheet.specs.Views.{node-of, leg-of};
@@ -17,6 +17,18 @@ use rules::fault::Fault;
 use rules::power::Mw;
 use rules::rate::Rate;
 use rules::tariff::Tariff;
+
+fn node_figures_fit(province: u32, standalone: u32, tight: u32, congested: u32) -> bool
+    ensures { λ r. ⌜ r ≡ node-figures-fit province standalone tight congested ⌝ }
+{
+    province <= 99 && (standalone <= 1 && (tight <= 1 && congested <= 1))
+}
+
+fn leg_figures_fit(rate: u32, tariff: u32, limit: u32) -> bool
+    ensures { λ r. ⌜ r ≡ leg-figures-fit rate tariff limit ⌝ }
+{
+    rate <= 200_000 && (tariff <= 1_000_000 && limit <= 100_000)
+}
 
 impl Sheet {
     // The node of these figures, if it may be entered.
@@ -35,7 +47,7 @@ impl Sheet {
                 place: 0,
             });
         }
-        if province > 99 || standalone > 1 || tight > 1 || congested > 1 {
+        if !node_figures_fit(province, standalone, tight, congested) {
             return Err(Fault {
                 question: SheetQuestion::NodeFigures,
                 place: 0,
@@ -74,7 +86,7 @@ impl Sheet {
                 place: 0,
             });
         }
-        if rate > 200_000 || tariff > 1_000_000 || limit > 100_000 {
+        if !leg_figures_fit(rate, tariff, limit) {
             return Err(Fault {
                 question: SheetQuestion::LegFigures,
                 place: 0,

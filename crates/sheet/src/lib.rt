@@ -9,4 +9,6 @@ pub mod path;
 pub mod question;
 mod reads;
 pub mod sheet;
+#[cfg(test)]
+mod tests;
 mod trace;

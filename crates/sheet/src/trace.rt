@@ -3,7 +3,7 @@ ghost use mathlib.Core.Bool.{true};
 ghost use mathlib.Core.List.{map};
 ghost use Prim.Native.Nat.{_*_, _≤_};
 ghost use lib.ListN.{length, take};
-ghost use Rattle.rules.specs.Convert.{entering, leaving, one-mw, landed as landed-after, charged as charged-along};
+ghost use Rattle.rules.specs.Convert.{entering, leaving, one-mw, passed, landed as landed-after, charged as charged-along};
 ghost use Rattle.rules.specs.Network.{all-entered, stretches, routed};
 ghost use Rattle.sheet.specs.Views.{legs-of, path-legs, route-of};
 use crate::chain::end;
@@ -27,8 +27,15 @@ fn landed(all: &[Leg], entering: Watts, legs: &[u32]) -> Watts
     }
 }
 
-// Each leg's tariff on what leaves it.
-fn charged(all: &[Leg], entering: Watts, legs: &[u32]) -> u64
+// A leg's tariff on what leaves it.
+fn leg_charge(leg: Leg, entering: Watts) -> u128
+    ensures { λ r. ⌜ r ≡ leg .tariff .thousandths * passed (leg .rate .millionths) (entering .0) ⌝ }
+{
+    leg.tariff.thousandths as u128 * leg.rate.leaves(entering).0 as u128
+}
+
+// Each leg's tariff on what leaves it, over all legs.
+fn charged(all: &[Leg], entering: Watts, legs: &[u32]) -> u128
     requires entered { ⌜ all-entered (length (now all)) (now legs) ≡ true ⌝ }
     requires few { ⌜ length (now legs) ≤ 8 ⌝ }
     requires small { ⌜ entering .0 ≤ 1000000 ⌝ }
@@ -39,8 +46,7 @@ fn charged(all: &[Leg], entering: Watts, legs: &[u32]) -> u64
         return 0;
     };
     let leg = leg_at(all, *first);
-    let leaves = leg.rate.leaves(entering);
-    leg.tariff.thousandths as u64 * leaves.0 + charged(all, leaves, rest)
+    leg_charge(leg, entering) + charged(all, leg.rate.leaves(entering), rest)
 }
 
 // What enters and what leaves each leg, in the first places of the array.
@@ -85,7 +91,7 @@ pub(crate) fn trace(all: &[Leg], legs: &[u32]) -> Path
             watts: landed(all, sent, legs).0,
         },
         charge: Charge {
-            billionths: charged(all, sent, legs),
+            billionths: charged(all, sent, legs) as u64,
         },
         passages: passages(all, legs),
         count: legs.len(),

@@ -27,17 +27,17 @@ charged-requires t c κs =
         rest-entered _ (c .args .legs .now) (c .pre .entered) some,
         (
           omega (arith, rest-length (c .args .legs .now), c .pre .few),
-          omega (arith, c .leaves-leaves .ensures .bound, c .pre .small),
+          omega (arith, c .leaves .ensures .bound, c .pre .small),
         ),
       ),
     )
 
 -- the tariff on what leaves the first leg
-on-first : (t : ℕ) (c : need.After-charged t) → c .leg-at-leg .result .tariff .thousandths * c .leaves-leaves .result .0 ≤ 1000000 * 1000000
+on-first : (t : ℕ) (c : need.After-charged t) → c .leg-charge .result ≤ 1000000 * 1000000
 on-first t c =
     let a : c .leg-at-leg .result .tariff .thousandths ≤ 1000000 = search needs in
-    let b : c .leaves-leaves .result .0 ≤ 1000000 = omega (arith, c .leaves-leaves .ensures .bound, c .pre .small) in
-    mul-le-mul a b
+    let b : passed (c .leg-at-leg .result .rate .millionths) (c .args .entering .0) ≤ 1000000 = omega (arith, c .leaves .ensures .value, c .leaves .ensures .bound, c .pre .small) in
+    omega (arith, c .leg-charge .ensures, mul-le-mul a b)
 
 pub add-result : need.add-result
 add-result t c = omega (arith, on-first t c, c .charged .ensures .bound, rest-length (c .args .legs .now), c .pre .few)
@@ -48,11 +48,10 @@ returns t c =
     let xs = c .args .legs .now in
     let e = c .args .entering .0 in
     let some : 0 < length (c .args .legs .now) = search needs in
-    let a = c .leg-at-leg .result .tariff .thousandths in
     record {
       value =
-          ap (λ n. a * c .leaves-leaves .result .0 + n) (c .charged .ensures .value)
-          ∙ ap (λ y. a * y + charged y (stretches ls (rest xs))) (c .leaves-leaves .ensures .value)
+          ap (λ n. n + c .charged .result) (c .leg-charge .ensures)
+          ∙ ap (λ n. c .leg-at-leg .result .tariff .thousandths * passed (c .leg-at-leg .result .rate .millionths) e + n) (c .charged .ensures .value ∙ ap (λ y. charged y (stretches ls (rest xs))) (c .leaves .ensures .value))
           ∙ ap (λ (y : DrawnLeg). y .tariff * passed (y .rate) e + charged (passed (y .rate) e) (stretches ls (rest xs))) (c .leg-at-leg .ensures)
           ∙ sym (at-first (λ ks. charged e (stretches ls ks)) xs some);
       bound = omega (arith, on-first t c, c .charged .ensures .bound, rest-length xs);

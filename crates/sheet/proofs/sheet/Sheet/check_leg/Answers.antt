@@ -9,8 +9,8 @@ returns-then-len-ge64 c = grind (arith, tells, length-map)
 pub returns-then-from-count : need.returns-then-from-count
 returns-then-from-count c = grind (arith, tells, length-map)
 
-pub returns-then-rate-gt200000 : need.returns-then-rate-gt200000
-returns-then-rate-gt200000 c = grind (arith, tells, length-map)
-
 pub returns : need.returns
 returns c = grind (arith, tells, length-map)
+
+pub returns-then-not-leg-figures-fit : need.returns-then-not-leg-figures-fit
+returns-then-not-leg-figures-fit c = grind (arith, tells, length-map)
