@@ -40,7 +40,7 @@ pub record Converts (ss : List Stretch) : Type 0 where
   pub yield-high : yield-of ss ≤ 1000000
   pub charge-high : charge-of ss ≤ 8000000000000
 
--- legs of these rates, with a tariff of 30,000 on the first alone
+-- a leg of this rate and tariff
 abbrev leg : ℕ → ℕ → Stretch
 leg r t = record { rate = r; tariff = t }
 

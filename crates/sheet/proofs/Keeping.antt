@@ -11,9 +11,14 @@ use Rattle.std.proofs.shelf.Equals.{sameBytes-decides}
 use Rattle.std.proofs.shelf.Tests.{and-parts, and-from, eqb-true, eq-eqb}
 use Rattle.std.proofs.shelf.Lists.{map-push, length-push, length-map, getD-map}
 use Rattle.rules.specs.Lists.{all-of}
-use Rattle.rules.specs.Network.{DrawnNode, DrawnLeg, Drawing, Route, same-route, joins-all, joins, path-holds, routed}
+use Rattle.rules.specs.Network.{DrawnNode, DrawnLeg, Drawing, Route, same-route, joins-all, joins, path-holds, routed, stretch-at, stretches, one-to-eight, all-entered}
+use Rattle.rules.specs.Convert.{yield-of, charge-of}
+use Rattle.rules.specs.ConvertLaws.{Chain}
+use Rattle.rules.proofs.Chains.{converts}
 use Rattle.rules.proofs.Alls.{all-of-at, all-of-push, all-of-mono}
 use Rattle.rules.proofs.Networks.{held, holds-with-node, holds-with-leg, routed-kept, joins-more}
+use Rattle.sheet.proofs.Passing.{few-legs}
+use Rattle.sheet.proofs.Tracing.{legal-all}
 use Rattle.sheet.specs.Sheets.{PathRead}
 use Rattle.sheet.specs.Views.{node-of, leg-of, nodes-of, legs-of, path-legs, route-of, is-sound}
 use Rattle.sheet.specs.declared.node.Node.{Node}
@@ -22,6 +27,17 @@ use Rattle.sheet.specs.declared.path.Path.{Path}
 
 abbrev pub drawn : List DrawnNode → List DrawnLeg → List (List ℕ) → Drawing
 drawn ns ls ps = record { nodes = ns; legs = ls; paths = ps }
+
+-- the legs of a path, as what they do to power
+chain-of : (ls : List Leg) (ks : List ℕ) → one-to-eight ks ≡ true → all-entered (length (legs-of ls)) ks ≡ true → Chain (stretches (legs-of ls) ks)
+chain-of ls ks o e =
+    let n = few-legs ks o in
+    let m = length-map ks (stretch-at (legs-of ls)) in
+    record {
+      some = omega (arith, m, n .0);
+      few = omega (arith, m, n .1);
+      each = legal-all ls ks (ap (λ k. all-entered k ks) (sym (length-map ls leg-of)) ∙ e);
+    }
 
 pub same-route-refl : (a : Route) → same-route a a ≡ true
 same-route-refl a =
@@ -88,10 +104,24 @@ module _ (ns : List Node) (ls : List Leg) (ps : List Path) (m : ℕ) (many : m �
   pub path-keeps-paths : (p : Path) → path-holds (nodes-of ns) (legs-of ls) (path-legs p) ≡ true → route-of p ≡ routed (legs-of ls) (path-legs p) → all-of (is-sound (nodes-of ns) (legs-of ls)) (ps ++ (p ∷ [])) ≡ true
   path-keeps-paths p h e = all-of-push (is-sound (nodes-of ns) (legs-of ls)) ps p sound (sound-from (nodes-of ns) (legs-of ls) p h e)
 
-pub path-read : (ns : List DrawnNode) (ls : List DrawnLeg) (ps : List Path) → all-of (is-sound ns ls) ps ≡ true → (k : ℕ) (p : Path) → k < length (map path-legs ps) → p ≡ getD ps k p → PathRead (drawn ns ls (map path-legs ps)) k p
+pub path-read : (ns : List DrawnNode) (ls : List Leg) (ps : List Path) → all-of (is-sound ns (legs-of ls)) ps ≡ true → (k : ℕ) (p : Path) → k < length (map path-legs ps) → p ≡ getD ps k p → PathRead (drawn ns (legs-of ls) (map path-legs ps)) k p
 path-read ns ls ps h k p l e =
+    let ds = legs-of ls in
     let inside : k < length ps = omega (arith, length-map ps path-legs) in
     let legs : path-legs p ≡ getD (map path-legs ps) k [] = ap path-legs e ∙ sym (getD-map path-legs ps k p [] inside) in
-    let sound : is-sound ns ls p ≡ true = ap (is-sound ns ls) e ∙ all-of-at (is-sound ns ls) ps k p h inside in
-    let parts = sound-parts ns ls p sound in
-    record { entered = l; legs = legs; a-path = ap (path-holds ns ls) (sym legs) ∙ parts .0; route = parts .1 ∙ ap (routed ls) legs }
+    let sound : is-sound ns ds p ≡ true = ap (is-sound ns ds) e ∙ all-of-at (is-sound ns ds) ps k p h inside in
+    let parts = sound-parts ns ds p sound in
+    let path = held ns ds (path-legs p) (parts .0) in
+    let c = chain-of ls (path-legs p) (path .some) (path .entered) in
+    let bounds = converts (stretches ds (path-legs p)) c in
+    let yields : p .yields .watts ≡ yield-of (stretches ds (path-legs p)) = ap (λ (r : Route). r .yield) (parts .1) in
+    let charges : p .charge .billionths ≡ charge-of (stretches ds (path-legs p)) = ap (λ (r : Route). r .charge) (parts .1) in
+    record {
+      entered = l;
+      legs = legs;
+      a-path = ap (path-holds ns ds) (sym legs) ∙ parts .0;
+      route = parts .1 ∙ ap (routed ds) legs;
+      yield-low = omega (arith, yields, bounds .yield-low);
+      yield-high = omega (arith, yields, bounds .yield-high);
+      charge-high = omega (arith, charges, bounds .charge-high);
+    }

@@ -2,18 +2,21 @@
 use mathlib.Core.Path.{_≡_}
 use mathlib.Core.List.{List, [], map}
 use mathlib.Core.Bool.{true}
-use Prim.Native.Nat.{ℕ, _<_}
+use Prim.Native.Nat.{ℕ, _≤_, _<_}
 use lib.ListN.{length, getD}
 use Rattle.std.specs.Of.Vec.{vec-items}
 use Rattle.std.specs.declared.result.Result.{Result}
 use Rattle.std.specs.declared.result.Result.the-variants.{Ok, Err}
-use Rattle.rules.specs.Network.{Drawing, path-holds, routed}
+use Rattle.rules.specs.Network.{Drawing, DrawnLeg, node-at, leg-at, path-holds, routed}
 use Rattle.rules.specs.Questions.{Asked, first-no, answer-to}
 use Rattle.rules.specs.declared.fault.Fault.{Fault}
 use Rattle.sheet.specs.declared.question.SheetQuestion.{SheetQuestion}
+use Rattle.sheet.specs.declared.leg.Leg.{Leg}
+use Rattle.sheet.specs.declared.node.Node.{Node}
 use Rattle.sheet.specs.declared.path.Path.{Path}
 use Rattle.sheet.specs.declared.sheet.Sheet.{Sheet}
-use Rattle.sheet.specs.Views.{nodes-of, legs-of, path-legs, route-of}
+use Rattle.sheet.specs.Asks.{node-questions, leg-questions, path-questions, marked, with-node, with-leg, with-path}
+use Rattle.sheet.specs.Views.{node-of, leg-of, nodes-of, legs-of, path-legs, route-of}
 
 -- what was entered, in order
 abbrev pub drawing : Sheet → Drawing
@@ -32,9 +35,31 @@ pub record Enters (s t : Sheet) (qs : List (Asked SheetQuestion)) (n : ℕ) (d :
   pub answers : r ≡ answer-to (first-no qs) n
   pub leaves : Leaves s t d r
 
--- what is read of path k: an entered path, whose legs, ends, yield, charge and flows are those of the rules
+abbrev pub EntersNode : Sheet → Sheet → ℕ → ℕ → ℕ → ℕ → Result ℕ (Fault SheetQuestion) → Type 0
+EntersNode s t province standalone tight congested r =
+    Enters s t (node-questions (drawing s) province standalone tight congested) (length (drawing s .nodes)) (with-node (drawing s) (marked province standalone tight congested)) r
+
+abbrev pub EntersLeg : Sheet → Sheet → DrawnLeg → Result ℕ (Fault SheetQuestion) → Type 0
+EntersLeg s t l r = Enters s t (leg-questions (drawing s) l) (length (drawing s .legs)) (with-leg (drawing s) l) r
+
+abbrev pub EntersPath : Sheet → Sheet → List ℕ → Result ℕ (Fault SheetQuestion) → Type 0
+EntersPath s t ks r = Enters s t (path-questions (drawing s) ks) (length (drawing s .paths)) (with-path (drawing s) ks) r
+
+-- what is read of node k and of leg k: what was entered
+pub record NodeRead (d : Drawing) (k : ℕ) (n : Node) : Type 0 where
+  pub entered : k < length (d .nodes)
+  pub figures : node-of n ≡ node-at (d .nodes) k
+
+pub record LegRead (d : Drawing) (k : ℕ) (l : Leg) : Type 0 where
+  pub entered : k < length (d .legs)
+  pub figures : leg-of l ≡ leg-at (d .legs) k
+
+-- what is read of path k: an entered path, whose legs, ends, yield, charge and flows are those of the rules, and within their bounds
 pub record PathRead (d : Drawing) (k : ℕ) (p : Path) : Type 0 where
   pub entered : k < length (d .paths)
   pub legs : path-legs p ≡ getD (d .paths) k []
   pub a-path : path-holds (d .nodes) (d .legs) (getD (d .paths) k []) ≡ true
   pub route : route-of p ≡ routed (d .legs) (getD (d .paths) k [])
+  pub yield-low : 167772 ≤ p .yields .watts
+  pub yield-high : p .yields .watts ≤ 1000000
+  pub charge-high : p .charge .billionths ≤ 8000000000000

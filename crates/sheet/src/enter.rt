@@ -6,9 +6,9 @@ ghost use lib.ListN.{length};
 ghost use Rattle.std.specs.Of.Vec.{vec-len};
 ghost use Rattle.std.specs.Vec.{made};
 ghost use Rattle.rules.specs.Network.{joins};
-ghost use Rattle.sheet.specs.Asks.{node-questions, leg-questions, path-questions, marked, drawn-leg, with-node, with-leg, with-path};
+ghost use Rattle.sheet.specs.Asks.{drawn-leg, with-node, with-leg, with-path};
 ghost use Rattle.sheet.specs.Checks.{PathOf};
-ghost use Rattle.sheet.specs.Sheets.{drawing, Enters, nothing-drawn};
+ghost use Rattle.sheet.specs.Sheets.{drawing, nothing-drawn, EntersNode, EntersLeg, EntersPath};
 ghost use Rattle.sheet.specs.Views.{node-of, leg-of, path-legs};
 use crate::leg::Leg;
 use crate::node::Node;
@@ -70,7 +70,7 @@ impl Sheet {
         tight: u32,
         congested: u32,
     ) -> Result<usize, Fault<SheetQuestion>>
-        ensures { λ r. ⌜ Enters (now (self .entry)) (now (self .exit)) (node-questions (drawing (now (self .entry))) province standalone tight congested) (length (drawing (now (self .entry)) .nodes)) (with-node (drawing (now (self .entry))) (marked province standalone tight congested)) r ⌝ }
+        ensures { λ r. ⌜ EntersNode (now (self .entry)) (now (self .exit)) province standalone tight congested r ⌝ }
     {
         match self.check_node(province, standalone, tight, congested) {
             Ok(node) => Ok(self.add_node(node)),
@@ -87,7 +87,7 @@ impl Sheet {
         tariff: u32,
         limit: u32,
     ) -> Result<usize, Fault<SheetQuestion>>
-        ensures { λ r. ⌜ Enters (now (self .entry)) (now (self .exit)) (leg-questions (drawing (now (self .entry))) (drawn-leg from to rate tariff limit)) (length (drawing (now (self .entry)) .legs)) (with-leg (drawing (now (self .entry))) (drawn-leg from to rate tariff limit)) r ⌝ }
+        ensures { λ r. ⌜ EntersLeg (now (self .entry)) (now (self .exit)) (drawn-leg from to rate tariff limit) r ⌝ }
     {
         match self.check_leg(from, to, rate, tariff, limit) {
             Ok(leg) => Ok(self.add_leg(leg)),
@@ -97,7 +97,7 @@ impl Sheet {
 
     // One path more, and its number; or the first question that its legs fail.
     pub fn enter_path(&mut self, legs: &[u32]) -> Result<usize, Fault<SheetQuestion>>
-        ensures { λ r. ⌜ Enters (now (self .entry)) (now (self .exit)) (path-questions (drawing (now (self .entry))) (now (legs .entry))) (length (drawing (now (self .entry)) .paths)) (with-path (drawing (now (self .entry))) (now (legs .entry))) r ⌝ }
+        ensures { λ r. ⌜ EntersPath (now (self .entry)) (now (self .exit)) (now (legs .entry)) r ⌝ }
     {
         match self.check_path(legs) {
             Ok(path) => Ok(self.add_path(path)),

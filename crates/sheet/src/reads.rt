@@ -4,7 +4,7 @@ ghost use lib.ListN.{length};
 ghost use Rattle.std.specs.Options.{Cases};
 ghost use Rattle.rules.specs.Convert.{claim-of};
 ghost use Rattle.rules.specs.Network.{node-at, leg-at};
-ghost use Rattle.sheet.specs.Sheets.{drawing, PathRead};
+ghost use Rattle.sheet.specs.Sheets.{drawing, NodeRead, LegRead, PathRead};
 ghost use Rattle.sheet.specs.Views.{node-of, leg-of, passages-of};
 use crate::leg::Leg;
 use crate::node::Node;
@@ -66,7 +66,7 @@ impl Sheet {
 
     // The node of this number; none where it is not entered.
     pub fn node(&self, number: usize) -> Option<Node>
-        ensures { λ r. ⌜ Cases r (length (drawing (now (self .entry)) .nodes) ≤ number) (λ n. (number < length (drawing (now (self .entry)) .nodes)) × (node-of n ≡ node-at (drawing (now (self .entry)) .nodes) number)) ⌝ }
+        ensures { λ r. ⌜ Cases r (length (drawing (now (self .entry)) .nodes) ≤ number) (λ n. NodeRead (drawing (now (self .entry))) number n) ⌝ }
     {
         if number >= self.node_count() {
             return None;
@@ -76,7 +76,7 @@ impl Sheet {
 
     // The leg of this number; none where it is not entered.
     pub fn leg(&self, number: usize) -> Option<Leg>
-        ensures { λ r. ⌜ Cases r (length (drawing (now (self .entry)) .legs) ≤ number) (λ l. (number < length (drawing (now (self .entry)) .legs)) × (leg-of l ≡ leg-at (drawing (now (self .entry)) .legs) number)) ⌝ }
+        ensures { λ r. ⌜ Cases r (length (drawing (now (self .entry)) .legs) ≤ number) (λ l. LegRead (drawing (now (self .entry))) number l) ⌝ }
     {
         if number >= self.leg_count() {
             return None;

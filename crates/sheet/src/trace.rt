@@ -16,6 +16,9 @@ use rules::charge::Charge;
 use rules::power::Watts;
 use rules::yields::Yield;
 
+// What enters the first leg of a path, for each MW sent.
+const SENT: Watts = Watts(1_000_000);
+
 // What leaves the last of the legs.
 fn landed(all: &[Leg], entering: Watts, legs: &[u32]) -> Watts
     requires { ⌜ all-entered (length (now all)) (now legs) ≡ true ⌝ }
@@ -62,7 +65,7 @@ fn passages(all: &[Leg], legs: &[u32]) -> [Passage; 8]
         enters: Watts(0),
         leaves: Watts(0),
     }; 8];
-    let mut enters = Watts(1_000_000);
+    let mut enters = SENT;
     for (i, leg) in legs.iter().enumerate() {
         let leaves = leg_at(all, *leg).rate.leaves(enters);
         passages[i] = Passage {
@@ -83,15 +86,14 @@ pub(crate) fn trace(all: &[Leg], legs: &[u32]) -> Path
     ensures legs { λ r. ⌜ path-legs r ≡ now (legs .entry) ⌝ }
     ensures route { λ r. ⌜ route-of r ≡ routed (legs-of (now (all .entry))) (now (legs .entry)) ⌝ }
 {
-    let sent = Watts(1_000_000);
     Path {
         from: start(all, legs),
         to: end(all, 0, legs),
         yields: Yield {
-            watts: landed(all, sent, legs).0,
+            watts: landed(all, SENT, legs).0,
         },
         charge: Charge {
-            billionths: charged(all, sent, legs) as u64,
+            billionths: charged(all, SENT, legs) as u64,
         },
         passages: passages(all, legs),
         count: legs.len(),

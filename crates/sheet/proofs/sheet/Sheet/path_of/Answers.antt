@@ -1,7 +1,7 @@
 use native.Mathlib.Omega.{arith}
 use Rattle.std.specs.Of.Vec.{vec-items}
 use Rattle.std.proofs.shelf.Lists.{length-map}
-use Rattle.sheet.specs.Views.{path-legs, nodes-of, legs-of}
+use Rattle.sheet.specs.Views.{path-legs, nodes-of}
 use Rattle.sheet.proofs.Keeping.{path-read}
 use Rattle.sheet.proofs.sheet.Sheet.path_of.Needs as need
 
@@ -11,4 +11,4 @@ index-requires c κs = let s = c .args .self .now in omega (arith, c .pre, lengt
 pub returns : need.returns
 returns c =
     let s = c .args .self .now in
-    path-read (nodes-of (vec-items (s .nodes))) (legs-of (vec-items (s .legs))) (vec-items (s .paths)) (s .sound) (c .args .number) (c .index .result .now) (c .pre) (c .index .ensures)
+    path-read (nodes-of (vec-items (s .nodes))) (vec-items (s .legs)) (vec-items (s .paths)) (s .sound) (c .args .number) (c .index .result .now) (c .pre) (c .index .ensures)
