@@ -1,23 +1,21 @@
 -- One line, step by step.
-use mathlib.Core.Path.{_≡_, refl, sym, _∙_, ap}
+use mathlib.Core.Path.{_≡_, refl, _∙_, ap}
 use mathlib.Core.List.{List, _∷_}
-use mathlib.Core.Bool.{Bool, true, false}
+use mathlib.Core.Bool.{true, false}
 use Prim.Native.Nat.{ℕ}
 use native.Mathlib.Omega.{arith}
 use Rattle.std.specs.Options.{isSome, mapped, valueOr}
 use Rattle.std.specs.declared.option.Option.{Option}
 use Rattle.std.specs.declared.option.Option.the-variants.{Some, None}
-use Rattle.std.specs.declared.result.Result.{Result}
 use Rattle.std.specs.declared.result.Result.the-variants.{Ok, Err}
 use Rattle.rules.specs.Network.{Drawing}
 use Rattle.rules.specs.Questions.{asked, answered, first-no, answer-to}
 use Rattle.rules.specs.declared.fault.Fault.{Fault}
 use Rattle.sheet.specs.declared.question.SheetQuestion.{SheetQuestion}
 use Rattle.text.specs.Words.{word-of}
-use Rattle.text.specs.declared.question.TextQuestion.{TextQuestion}
 use Rattle.text.specs.declared.question.TextQuestion.the-variants.{KnownWord}
 use Rattle.text.specs.declared.word.Word.{Word}
-use Rattle.reader.specs.Case.{first-word, figures-of, moves, figure-questions, text-first, sheet-questions, acting-questions, acted, entered, of-sheet, is-past, Step, ends, fails, leads, unless, line-step}
+use Rattle.reader.specs.Case.{first-word, figures-of, moves, figure-questions, text-first, sheet-questions, acting-questions, acted, entered, of-sheet, is-past, Step, ends, leads, unless, line-step}
 use Rattle.reader.specs.Order.{next-stage}
 use Rattle.reader.specs.declared.stage.Stage.{Stage}
 use Rattle.reader.specs.declared.stage.Stage.the-variants.{Nodes, Legs, Paths, Past}

@@ -1,31 +1,30 @@
 -- Lines that are written are read back, and the first fault decides.
 use mathlib.Core.Path.{_≡_, refl, sym, _∙_, ap}
 use mathlib.Core.List.{List, [], _∷_, _++_, map}
-use mathlib.Core.Bool.{Bool, true, false, _&&_}
+use mathlib.Core.Bool.{true}
 use Prim.Native.Nat.{ℕ, _+_, _^_, _≤_, _<_}
 use native.Mathlib.Omega.{arith}
 use lib.Dec.{ltb}
 use lib.ListN.{length, getD, drop}
 use Rattle.std.proofs.shelf.Tests.{and-parts, and-from, ltb-true}
 use Rattle.std.specs.Written.{decimal}
-use Rattle.std.specs.declared.option.Option.{Option}
-use Rattle.std.specs.declared.option.Option.the-variants.{Some, None}
+use Rattle.std.specs.declared.option.Option.the-variants.{Some}
 use Rattle.std.specs.declared.result.Result.{Result}
 use Rattle.std.specs.declared.result.Result.the-variants.{Ok, Err}
 use Rattle.rules.specs.Lists.{all-of}
 use Rattle.rules.specs.Network.{Drawing}
 use Rattle.rules.specs.Questions.{each-from}
 use Rattle.rules.specs.declared.fault.Fault.{Fault}
-use Rattle.rules.specs.declared.fault.Answer.{Answer}
-use Rattle.rules.specs.declared.fault.Answer.the-variants.{Yes, No}
+use Rattle.rules.specs.declared.fault.Answer.the-variants.{Yes}
+use Rattle.rules.proofs.Asking.{each-on}
 use Rattle.text.specs.Figures.{is-figure, value}
-use Rattle.text.specs.Format.{join-words, join-lines, lacks, unbroken}
-use Rattle.text.specs.Pieces.{lines, words}
+use Rattle.text.specs.Format.{join-words, lacks, unbroken}
+use Rattle.text.specs.Pieces.{words}
 use Rattle.text.specs.Words.{spelled, word-of}
 use Rattle.text.proofs.Joins.{lines-back, words-back, lacks-parts, lacks-more}
-use Rattle.text.proofs.Reading.{figure-some, each-yes}
+use Rattle.text.proofs.Reading.{figure-some}
 use Rattle.text.proofs.Written.{decimal-is-figure, figure-back, decimal-whole, word-back, spelled-whole}
-use Rattle.reader.specs.Case.{first-word, figure-words, figures-of, read-lines, line-step, at-line, Step, ends, fails, leads}
+use Rattle.reader.specs.Case.{read-lines, line-step, at-line, Step, ends, fails, leads}
 use Rattle.reader.specs.Format.{CaseLine, well-formed, written-line, written, said-by, line-said, Reading-stands}
 use Rattle.reader.specs.declared.fault.CaseFault.{CaseFault}
 use Rattle.reader.specs.declared.fault.Question.{Question}
@@ -52,7 +51,7 @@ figures-fine : (k : ℕ) (ns : List ℕ) → all-of (λ n. ltb n 1000000000) ns 
 figures-fine k [] h = refl
 figures-fine k (n ∷ ns) h =
     let p = and-parts (ltb n 1000000000) _ h in
-    each-yes k (decimal n) (map decimal ns) (decimal-is-figure n (ltb-true n 1000000000 (p .0))) ∙ figures-fine (k + 1) ns (p .1)
+    each-on is-figure k (decimal n) (map decimal ns) (decimal-is-figure n (ltb-true n 1000000000 (p .0))) ∙ figures-fine (k + 1) ns (p .1)
 
 unbroken-lacks-space : (ws : List (List ℕ)) → all-of unbroken ws ≡ true → all-of (lacks 32) ws ≡ true
 unbroken-lacks-space [] h = refl

@@ -8,7 +8,7 @@ use lib.ListN.{length}
 use Rattle.std.specs.Written.{decimal}
 use Rattle.std.specs.declared.option.Option.{Option}
 use Rattle.std.specs.declared.option.Option.the-variants.{Some, None}
-use Rattle.std.specs.declared.result.Result.the-variants.{Ok, Err}
+use Rattle.std.specs.declared.result.Result.the-variants.{Err}
 use Rattle.rules.specs.Lists.{all-of}
 use Rattle.rules.specs.Network.{Drawing}
 use Rattle.rules.specs.Questions.{each-from}

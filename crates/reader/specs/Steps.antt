@@ -6,14 +6,13 @@ use Rattle.std.specs.declared.option.Option.{Option}
 use Rattle.std.specs.declared.option.Option.the-variants.{Some, None}
 use Rattle.std.specs.declared.result.Result.{Result}
 use Rattle.std.specs.declared.result.Result.the-variants.{Ok, Err}
-use Rattle.rules.specs.Network.{Drawing}
 use Rattle.rules.specs.Questions.{first-no}
 use Rattle.rules.specs.declared.fault.Fault.{Fault}
 use Rattle.sheet.specs.Sheets.{drawing, nothing-drawn}
 use Rattle.text.specs.Words.{word-of}
 use Rattle.text.specs.declared.question.TextQuestion.{TextQuestion}
 use Rattle.text.specs.declared.word.Word.{Word}
-use Rattle.reader.specs.Case.{first-word, figures-of, moves, figure-questions, line-step, read-lines, Step, ends, fails, leads}
+use Rattle.reader.specs.Case.{first-word, figures-of, moves, figure-questions, line-step, read-lines, ends, fails, leads}
 use Rattle.reader.specs.Order.{next-stage}
 use Rattle.reader.specs.declared.stage.Stage.{Stage}
 use Rattle.reader.specs.declared.stage.Stage.the-variants.{Nodes}

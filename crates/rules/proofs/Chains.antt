@@ -1,19 +1,19 @@
 -- What a chain of legs does to a MW.
-use mathlib.Core.Path.{_≡_, refl, sym, _∙_, ap}
+use mathlib.Core.Path.{_≡_, refl, ap}
 use mathlib.Core.List.{List, [], _∷_}
-use mathlib.Core.Bool.{Bool, true, false, _&&_}
-use Prim.Native.Nat.{ℕ, zero, suc, _+_, _-_, _*_, _/_, _≤_, _<_}
-use native.Mathlib.Nat.{mul-le-mul-left, mul-le-mul-right, mul-le-mul}
+use mathlib.Core.Bool.{true}
+use Prim.Native.Nat.{ℕ, zero, suc, _+_, _-_, _*_, _≤_, _<_}
+use native.Mathlib.Nat.{mul-le-mul}
 use native.Mathlib.Numerals.{add-one}
 use native.Mathlib.Omega.{arith}
-use lib.Dec.{leb, lit≤}
+use lib.Dec.{lit≤}
 use lib.ListN.{length, getD}
 use Rattle.std.proofs.shelf.Tests.{and-parts}
 use Rattle.std.proofs.shelf.Ways.{tells}
 use Rattle.rules.specs.Lists.{all-of}
-use Rattle.rules.specs.Convert.{Stretch, lost, passed, entering, leaving, landed, charged, yield-of, charge-of, one-mw}
+use Rattle.rules.specs.Convert.{Stretch, passed, entering, leaving, landed, charged, yield-of, one-mw}
 use Rattle.rules.specs.ConvertLaws.{legal, Chain, Converts, Worked, Conversion-stands, tariffs-on}
-use Rattle.rules.proofs.Losses.{loss-law, passed-le, passed-mono, product-le}
+use Rattle.rules.proofs.Losses.{loss-law, passed-le, passed-mono}
 
 legal-rate : (s : Stretch) → legal s ≡ true → s .rate ≤ 200000
 legal-rate s h = grind (arith, tells)

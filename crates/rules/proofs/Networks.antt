@@ -1,15 +1,14 @@
 -- A node or a leg more leaves what was drawn as it was.
-use mathlib.Core.Path.{_≡_, refl, sym, _∙_, ap}
-use mathlib.Core.List.{List, [], _∷_, _++_, map}
-use mathlib.Core.Bool.{Bool, true, false, _&&_, _||_, not}
-use Prim.Native.Nat.{ℕ, zero, suc, _+_, _≤_, _<_}
+use mathlib.Core.Path.{_≡_, refl, _∙_, ap}
+use mathlib.Core.List.{List, [], _∷_, _++_}
+use mathlib.Core.Bool.{true, false, _&&_}
+use Prim.Native.Nat.{ℕ, _+_, _<_}
 use native.Mathlib.Omega.{arith}
-use lib.Dec.{eqb, leb, ltb}
-use lib.ListN.{length, getD}
+use lib.Dec.{eqb, ltb}
+use lib.ListN.{length}
 use Rattle.std.proofs.shelf.Lists.{getD-append-left, length-push}
 use Rattle.std.proofs.shelf.Tests.{and-parts, and-from, ltb-true, lt-ltb, false≢true}
 use Rattle.std.proofs.shelf.Ways.{tells}
-use Rattle.rules.specs.Lists.{all-of, has}
 use Rattle.rules.specs.Network.{DrawnNode, DrawnLeg, node-at, leg-at, stretch-at, stretches, start-of, end-after, end-of, chained-from, chained, ends-of, nodes-met, no-twice, may-trade, joins, joins-all, one-to-eight, all-entered, path-holds, routed}
 use Rattle.rules.proofs.Alls.{all-of-at, all-of-mono, map-agrees}
 

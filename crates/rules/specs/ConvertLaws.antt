@@ -4,7 +4,7 @@ use mathlib.Core.List.{List, [], _∷_}
 use mathlib.Core.Bool.{Bool, true, _&&_}
 use Prim.Native.Nat.{ℕ, _+_, _*_, _≤_, _<_}
 use lib.Dec.{leb}
-use lib.IntN.{ℤ, pos, negsuc}
+use lib.IntN.{pos, negsuc}
 use lib.ListN.{length, getD}
 use Rattle.rules.specs.Convert.{Stretch, lost, passed, entering, leaving, yield-of, charge-of, claim-of, one-mw}
 use Rattle.rules.specs.Lists.{all-of}

@@ -1,19 +1,19 @@
 -- The steps of the questions on a path's legs.
-use mathlib.Core.Path.{_≡_, refl, sym, _∙_, ap, subst}
-use mathlib.Core.List.{List, [], _∷_, _++_, map}
+use mathlib.Core.Path.{_≡_, sym, _∙_, ap}
+use mathlib.Core.List.{List, [], _∷_, _++_}
 use mathlib.Core.Bool.{Bool, true, false, _&&_, _||_}
 use Prim.Native.Nat.{ℕ, _+_, _-_, _≤_, _<_}
 use native.Mathlib.Omega.{arith}
 use lib.Dec.{eqb, ltb, leb}
 use lib.ListN.{length, getD, take, drop}
-use Rattle.std.proofs.shelf.Tests.{eq-eqb, ne-eqb, lt-ltb, le-ltb}
+use Rattle.std.proofs.shelf.Tests.{eq-eqb, ne-eqb}
 use Rattle.std.proofs.shelf.Ways.{tells}
-use Rattle.std.proofs.shelf.Lists.{getD-map, length-map, getD-read, at-drop-more, at-drop-all, map-more}
-use Rattle.rules.specs.Network.{DrawnLeg, leg-at, end-after, start-of, ends-of}
+use Rattle.std.proofs.shelf.Lists.{getD-map, at-drop-more, at-drop-all, map-more}
+use Rattle.rules.specs.Network.{DrawnLeg, leg-at, ends-of}
 use Rattle.rules.specs.Lists.{has}
 use Rattle.rules.specs.Questions.{each-from}
-use Rattle.rules.specs.declared.fault.Answer.{Answer}
 use Rattle.rules.specs.declared.fault.Answer.the-variants.{Yes, No}
+use Rattle.rules.proofs.Asking.{each-on, each-stops}
 use Rattle.sheet.specs.Asks.{chain-from, legs-answer, nodes-from}
 use Rattle.sheet.specs.Views.{leg-of, legs-of}
 use Rattle.sheet.specs.declared.leg.Leg.{Leg}
@@ -22,13 +22,7 @@ use Rattle.sheet.proofs.Firsts.{rest, at-first}
 pub leg-read : (ls : List Leg) (k : ℕ) (x : Leg) → k < length ls → x ≡ getD ls k x → leg-of x ≡ leg-at (legs-of ls) k
 leg-read ls k x h e = ap leg-of e ∙ sym (getD-map leg-of ls k x _ h)
 
--- what each item is asked in turn
-pub each-on : (f : ℕ → Bool) (i k : ℕ) (ks : List ℕ) → f k ≡ true → each-from i f (k ∷ ks) ≡ each-from (i + 1) f ks
-each-on f i k ks h = rw (h, each-from)
-
-pub each-stops : (f : ℕ → Bool) (i k : ℕ) (ks : List ℕ) → f k ≡ false → each-from i f (k ∷ ks) ≡ No i
-each-stops f i k ks h = rw (h, each-from)
-
+-- what each leg is asked in turn
 module _ (f : ℕ → Bool) (ks : List ℕ) (i : ℕ) where
   pub each-next : i < length ks → f (getD ks i 0) ≡ true → each-from (i + 1) f (drop i ks) ≡ each-from (i + 1 + 1) f (drop (i + 1) ks)
   each-next l h = at-drop-more (each-from (i + 1) f) ks i 0 l ∙ each-on f (i + 1) (getD ks i 0) (drop (i + 1) ks) h
@@ -62,9 +56,6 @@ module _ (ls : List DrawnLeg) (n i : ℕ) (xs : List ℕ) (some : 0 < length xs)
 
 pub has-skip : (n x : ℕ) (xs : List ℕ) → (x ≡ n → ⊥) → has n (x ∷ xs) ≡ has n xs
 has-skip n x xs ne = ap (λ b. b || has n xs) (ne-eqb x n ne)
-
-pub has-here : (n x : ℕ) (xs : List ℕ) → x ≡ n → has n (x ∷ xs) ≡ true
-has-here n x xs e = ap (λ b. b || has n xs) (eq-eqb x n e)
 
 nodes-more : (ls : List DrawnLeg) (met : List ℕ) (i k : ℕ) (ks : List ℕ) → has (leg-at ls k .to) met ≡ false → nodes-from ls met i (k ∷ ks) ≡ nodes-from ls (met ++ (leg-at ls k .to ∷ [])) (i + 1) ks
 nodes-more ls met i k ks h = rw (h, nodes-from)

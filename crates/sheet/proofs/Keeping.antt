@@ -1,15 +1,15 @@
 -- What a sheet keeps when something more is entered.
 use mathlib.Core.Path.{_≡_, refl, sym, _∙_, ap}
 use mathlib.Core.List.{List, [], _∷_, _++_, map}
-use mathlib.Core.Bool.{Bool, true, false, _&&_}
-use Prim.Native.Nat.{ℕ, _+_, _≤_, _<_}
+use mathlib.Core.Bool.{true}
+use Prim.Native.Nat.{ℕ, _+_, _<_}
 use native.Mathlib.Omega.{arith}
 use lib.Dec.{eqb}
 use lib.ListN.{length, getD}
 use Rattle.std.specs.shelf.Text.{sameBytes}
 use Rattle.std.proofs.shelf.Equals.{sameBytes-decides}
 use Rattle.std.proofs.shelf.Tests.{and-parts, and-from, eqb-true, eq-eqb}
-use Rattle.std.proofs.shelf.Lists.{map-push, length-push, length-map, getD-map}
+use Rattle.std.proofs.shelf.Lists.{map-push, length-map, getD-map}
 use Rattle.rules.specs.Lists.{all-of}
 use Rattle.rules.specs.Network.{DrawnNode, DrawnLeg, Drawing, Route, same-route, joins-all, joins, path-holds, routed, stretch-at, stretches, one-to-eight, all-entered}
 use Rattle.rules.specs.Convert.{yield-of, charge-of}

@@ -1,7 +1,7 @@
 -- What a path is of which every question is answered yes.
 use mathlib.Core.Path.{_≡_, refl, sym, _∙_, ap, subst}
 use mathlib.Core.List.{List, [], _∷_, _++_, append-assoc, append-nil}
-use mathlib.Core.Bool.{Bool, true, false, _&&_, _||_, not}
+use mathlib.Core.Bool.{Bool, true, false, not}
 use Prim.Native.Nat.{ℕ, _+_, _≤_, _<_}
 use native.Mathlib.Omega.{arith}
 use lib.Dec.{eqb, leb, ltb}
@@ -12,7 +12,7 @@ use Rattle.std.specs.declared.result.Result.{Result}
 use Rattle.std.specs.declared.result.Result.the-variants.{Ok, Err}
 use Rattle.std.specs.declared.option.Option.the-variants.{Some, None}
 use Rattle.rules.specs.Lists.{all-of, has}
-use Rattle.rules.specs.Network.{DrawnNode, DrawnLeg, Drawing, leg-at, start-of, ends-of, chained-from, chained, nodes-met, no-twice, one-to-eight, all-entered, path-holds, joins-all, end-of}
+use Rattle.rules.specs.Network.{DrawnNode, DrawnLeg, leg-at, start-of, ends-of, chained-from, chained, nodes-met, no-twice, one-to-eight, all-entered, path-holds, joins-all, end-of}
 use Rattle.rules.specs.Questions.{Asked, asked, answered, each-from, first-no}
 use Rattle.rules.specs.declared.fault.Fault.{Fault}
 use Rattle.rules.specs.declared.fault.Answer.{Answer}

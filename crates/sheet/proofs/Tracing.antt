@@ -1,17 +1,17 @@
 -- The steps by which a path's figures are filled in.
 use mathlib.Core.Path.{_≡_, refl, sym, _∙_, ap}
 use mathlib.Core.List.{List, [], _∷_, _++_, map, append-assoc, append-nil}
-use mathlib.Core.Bool.{Bool, true, false, _&&_}
-use Prim.Native.Nat.{ℕ, zero, suc, _+_, _≤_, _<_}
+use mathlib.Core.Bool.{true}
+use Prim.Native.Nat.{ℕ, zero, suc, _+_, _<_}
 use native.Mathlib.Omega.{arith}
 use lib.Dec.{ltb}
-use lib.ListN.{length, getD, take, drop, set}
-use Rattle.std.proofs.shelf.Lists.{take-more, take-more-set, map-push, at-drop-more, at-drop-all}
+use lib.ListN.{length, take, set}
+use Rattle.std.proofs.shelf.Lists.{take-more-set, map-push}
 use Rattle.std.proofs.shelf.Tests.{and-parts, and-from, le-leb, ltb-true}
 use Rattle.rules.specs.Lists.{all-of}
 use Rattle.rules.specs.ConvertLaws.{legal}
-use Rattle.rules.specs.Network.{DrawnLeg, leg-at, stretch-at, stretches, all-entered}
-use Rattle.sheet.specs.Views.{leg-of, legs-of}
+use Rattle.rules.specs.Network.{stretch-at, stretches, all-entered}
+use Rattle.sheet.specs.Views.{legs-of}
 use Rattle.sheet.specs.declared.leg.Leg.{Leg}
 
 -- one item more: what came before, and what is still to come

@@ -1,38 +1,23 @@
 -- Words read as figures, one by one.
 use mathlib.Core.Path.{_≡_, refl, ap}
-use mathlib.Core.List.{List, _∷_, _++_, map}
+use mathlib.Core.List.{List, _++_, map}
 use mathlib.Core.Bool.{Bool, true, false, cond}
 use Prim.Native.Nat.{ℕ, _+_, _<_}
 use native.Mathlib.Omega.{arith}
 use lib.ListN.{length}
 use Rattle.std.proofs.shelf.Lists.{length-append, length-map}
 use Rattle.std.specs.declared.option.Option.the-variants.{Some, None}
-use Rattle.rules.specs.Questions.{each-from}
-use Rattle.rules.specs.declared.fault.Answer.the-variants.{No}
 use Rattle.text.specs.Pieces.{words}
 use Rattle.text.specs.Figures.{is-figure, value, figure-of}
 use Rattle.text.proofs.Parting.{words-some}
 
--- a test that chose a value chose it by being true, and none by being false
+-- a test that chose a value chose it by being true
 some-from : (b : Bool) (v n : ℕ) → cond b (Some v) None ≡ Some n → (b ≡ true) × (n ≡ v)
 some-from true v n e = (refl, cc)
 some-from false v n e = let z : _≡_ {A = ℕ} 0 1 = cc in absurd (omega arith)
 
-none-from : (b : Bool) (v : ℕ) → cond b (Some v) None ≡ None → b ≡ false
-none-from true v e = let z : _≡_ {A = ℕ} 0 1 = cc in absurd (omega arith)
-none-from false v e = refl
-
 pub figure-some : (w : List ℕ) (n : ℕ) → figure-of w ≡ Some n → (is-figure w ≡ true) × (n ≡ value w)
 figure-some w n e = some-from (is-figure w) (value w) n e
-
-pub figure-none : (w : List ℕ) → figure-of w ≡ None → is-figure w ≡ false
-figure-none w e = none-from (is-figure w) (value w) e
-
-pub each-yes : (k : ℕ) (w : List ℕ) (ws : List (List ℕ)) → is-figure w ≡ true → each-from k is-figure (w ∷ ws) ≡ each-from (k + 1) is-figure ws
-each-yes k w ws e = ap (λ t. elim t [ true ↦ each-from (k + 1) is-figure ws | false ↦ No k ]) e
-
-pub each-no : (k : ℕ) (w : List ℕ) (ws : List (List ℕ)) → is-figure w ≡ false → each-from k is-figure (w ∷ ws) ≡ No k
-each-no k w ws e = ap (λ t. elim t [ true ↦ each-from (k + 1) is-figure ws | false ↦ No k ]) e
 
 -- while a word is left to read, fewer values are read than there are words
 pub fewer : (was left rest : List ℕ) → was ++ map value (words left) ≡ map value (words rest) → length was < length (words rest)

@@ -5,7 +5,7 @@ use Prim.Native.Nat.{ℕ, _+_, _-_, _*_}
 use lib.Dec.{eqb, leb}
 use lib.IntN.{ℤ, pos, negℤ}
 use lib.ListN.{length, getD, drop}
-use Rattle.std.specs.Options.{isSome, mapped}
+use Rattle.std.specs.Options.{mapped}
 use Rattle.std.specs.declared.option.Option.{Option}
 use Rattle.std.specs.declared.option.Option.the-variants.{Some, None}
 use Rattle.rules.specs.Lists.{all-of}
@@ -31,6 +31,3 @@ figure-of w = cond (is-figure w) (Some (value w)) None
 -- a minus may stand before the digits, before 0 too
 abbrev pub signed-figure-of : List ℕ → Option ℤ
 signed-figure-of w = cond (eqb (getD w 0 0) 45) (mapped (λ n. negℤ (pos n)) (figure-of (drop 1 w))) (mapped pos (figure-of w))
-
-abbrev pub is-signed-figure : List ℕ → Bool
-is-signed-figure w = isSome (signed-figure-of w)

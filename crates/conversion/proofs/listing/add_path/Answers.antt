@@ -1,4 +1,4 @@
-use mathlib.Core.Path.{_≡_, _∙_, ap}
+use mathlib.Core.Path.{_∙_, ap}
 use mathlib.Core.List.{_++_, append-assoc}
 use Rattle.std.specs.Of.String.{string-bytes}
 use Rattle.std.proofs.shelf.Results.{made-weaker}

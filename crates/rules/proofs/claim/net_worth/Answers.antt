@@ -1,12 +1,11 @@
-use mathlib.Core.Path.{_≡_, sym, _∙_, ap}
-use Prim.Native.Nat.{ℕ, _*_, _<_, _≤_, _^_}
+use mathlib.Core.Path.{_≡_}
+use Prim.Native.Nat.{_*_}
 use native.Mathlib.Omega.{arith}
 use lib.IntN.{ℤ, pos, _*ℤ_, _-ℤ_}
 use mir.Val.{SFits, toZ, ofZ}
 use mir.Syntax.{w64}
 use Rattle.std.proofs.shelf.Signed.{ints, toZ-ofZ, toZ-pos}
 use Rattle.rules.proofs.Claims.{Narrow, product-narrow}
-use borrow.Author.Needs.{needs}
 use Rattle.rules.proofs.claim.net_worth.Needs as need
 
 product-is : (c : need.Start) → toZ w64 (ofZ w64 (c .args .bid)) *ℤ toZ w64 (1000 * c .args .landed) ≡ c .args .bid *ℤ pos (1000 * c .args .landed)

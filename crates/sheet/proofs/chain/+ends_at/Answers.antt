@@ -1,5 +1,4 @@
-use mathlib.Core.Path.{_≡_, sym, _∙_, ap}
-use mathlib.Core.Bool.{true}
+use mathlib.Core.Path.{sym, _∙_, ap}
 use Prim.Native.Nat.{_<_}
 use native.Mathlib.Omega.{arith}
 use lib.ListN.{length, getD}
@@ -8,7 +7,7 @@ use Rattle.rules.specs.Lists.{has}
 use Rattle.rules.specs.Network.{DrawnLeg, leg-at, ends-of}
 use Rattle.sheet.specs.Views.{legs-of}
 use Rattle.sheet.proofs.Firsts.{first-entered, rest-entered, rest, rest-shorter, at-first, at-none}
-use Rattle.sheet.proofs.Chaining.{has-skip, has-here}
+use Rattle.sheet.proofs.Chaining.{has-skip}
 use Rattle.sheet.proofs.chain.+ends_at.Needs as need
 
 pub leg-at-requires : need.leg-at-requires

@@ -1,7 +1,6 @@
-use mathlib.Core.Path.{_≡_, sym, _∙_, ap}
+use mathlib.Core.Path.{sym, _∙_}
 use native.Mathlib.Omega.{arith}
 use lib.Dec.{ltb}
-use lib.ListN.{drop, getD}
 use Rattle.std.proofs.shelf.Ways.{tells}
 use Rattle.sheet.proofs.Chaining.{each-next, each-here, each-done, counts}
 use Rattle.sheet.proofs.chain.legs_entered.Needs as need

@@ -1,11 +1,10 @@
 use mathlib.Core.Path.{_≡_, sym, _∙_, ap}
-use mathlib.Core.Bool.{Bool, true, false}
-use mathlib.Core.List.{List, [], _∷_}
+use mathlib.Core.List.{[], _∷_}
 use Prim.Native.Nat.{ℕ, _-_}
 use native.Mathlib.Omega.{arith}
 use lib.ListN.{take}
 use Rattle.rules.specs.Lists.{has}
-use Rattle.rules.specs.Network.{ends-of, start-of}
+use Rattle.rules.specs.Network.{ends-of}
 use Rattle.sheet.specs.Asks.{nodes-from}
 use Rattle.sheet.specs.Views.{leg-of, legs-of}
 use Rattle.sheet.proofs.Firsts.{entered-at, entered-take}

@@ -1,8 +1,8 @@
-use mathlib.Core.Path.{_≡_, sym, _∙_, ap}
+use mathlib.Core.Path.{sym, _∙_, ap}
 use borrow.Author.Needs.{needs}
 use Rattle.rules.specs.Network.{DrawnLeg, start-of}
 use Rattle.sheet.specs.Views.{legs-of}
-use Rattle.sheet.proofs.Firsts.{first-entered, at-first, at-none}
+use Rattle.sheet.proofs.Firsts.{first-entered, at-first}
 use Rattle.sheet.proofs.chain.start.Needs as need
 
 pub leg-at-requires : need.leg-at-requires

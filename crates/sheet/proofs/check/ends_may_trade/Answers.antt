@@ -1,11 +1,7 @@
-use mathlib.Core.Path.{_≡_, sym, _∙_, ap}
-use mathlib.Core.Bool.{true}
+use mathlib.Core.Path.{_∙_, ap}
 use native.Mathlib.Omega.{arith}
-use lib.ListN.{length}
-use Rattle.std.proofs.shelf.Lists.{length-map}
-use Rattle.rules.specs.Network.{node-at, may-trade, all-entered, start-of, end-of}
-use Rattle.rules.proofs.Networks.{ends-inside}
-use Rattle.sheet.specs.Views.{leg-of, legs-of, nodes-of, node-of}
+use Rattle.rules.specs.Network.{node-at, may-trade, start-of}
+use Rattle.sheet.specs.Views.{legs-of, nodes-of, node-of}
 use Rattle.sheet.proofs.Passing.{ends-found}
 use Rattle.sheet.proofs.check.ends_may_trade.Needs as need
 

@@ -1,8 +1,8 @@
 use mathlib.Core.Path.{_≡_, refl, sym, _∙_, ap}
-use mathlib.Core.List.{List, [], _∷_, _++_, map}
-use Prim.Native.Nat.{ℕ, _+_, _<_}
+use mathlib.Core.List.{_∷_, map}
+use Prim.Native.Nat.{_+_, _<_}
 use native.Mathlib.Omega.{arith}
-use lib.ListN.{length, getD, take, drop, set}
+use lib.ListN.{length, getD, take, drop}
 use Rattle.std.proofs.shelf.Lists.{take-more, take-all, length-set, at-drop-more, at-drop-all}
 use Rattle.rules.specs.Convert.{entering, leaving, passed}
 use Rattle.rules.specs.Network.{DrawnLeg, stretches}
@@ -10,7 +10,6 @@ use Rattle.sheet.specs.Views.{legs-of}
 use Rattle.sheet.specs.declared.path.Passage.{Passage}
 use Rattle.sheet.proofs.Firsts.{entered-at}
 use Rattle.sheet.proofs.Tracing.{one-more, goes-on, all-done}
-use borrow.Author.Needs.{needs}
 use Rattle.sheet.proofs.trace.passages.Needs as need
 
 pub leg-at-requires : need.leg-at-requires

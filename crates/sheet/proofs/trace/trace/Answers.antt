@@ -2,7 +2,7 @@ use Prim.Native.Nat.{_≤_}
 use native.Mathlib.Omega.{arith}
 use lib.ListN.{length}
 use Rattle.std.proofs.shelf.Lists.{length-map}
-use Rattle.rules.specs.Convert.{yield-of, one-mw}
+use Rattle.rules.specs.Convert.{one-mw}
 use Rattle.rules.specs.Network.{stretches, stretch-at}
 use Rattle.rules.proofs.Chains.{yield-low, landed-high}
 use Rattle.sheet.specs.Views.{legs-of}

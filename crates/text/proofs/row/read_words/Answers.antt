@@ -7,9 +7,10 @@ use Rattle.std.specs.Options.{mapped}
 use Rattle.std.proofs.shelf.Parts.{pushed}
 use Rattle.std.proofs.shelf.Results.{err-from-errBy}
 use Rattle.rules.specs.Questions.{each-from}
+use Rattle.rules.proofs.Asking.{each-on}
 use Rattle.text.specs.Pieces.{words, words-of}
 use Rattle.text.specs.Figures.{is-figure, value}
-use Rattle.text.proofs.Reading.{figure-some, each-yes, fewer}
+use Rattle.text.proofs.Reading.{figure-some, fewer}
 use Rattle.text.proofs.row.read_words.Needs as need
 
 pub loop-n-again : need.loop-n-again
@@ -22,7 +23,7 @@ loop-n-again c =
     c .first-word .ensures .front ∙ ap (λ o. word ∷ words-of (mapped (λ x. x .now) o)) (c .in-Some-more .is) in
     let told = figure-some word n (sym (c .in-Some .ensures tt .value)) in
     let put : vec-items (c .push .last .self) ≡ was ++ (n ∷ []) = pushed (n ∷ []) refl (c .in-Continue-push .was tt) (c .push .ensures .items) in (
-      sym (ap (each-from (c .loop-n .place) is-figure) split ∙ each-yes (c .loop-n .place) word (words next) (told .0)) ∙ c .loop-n .inv .0,
+      sym (ap (each-from (c .loop-n .place) is-figure) split ∙ each-on is-figure (c .loop-n .place) word (words next) (told .0)) ∙ c .loop-n .inv .0,
       ap (λ l. l ++ map value (words next)) put
           ∙ append-assoc was (n ∷ []) (map value (words next))
           ∙ ap (λ m. was ++ (m ∷ map value (words next))) (told .1)

@@ -1,12 +1,12 @@
-use mathlib.Core.Path.{_≡_, sym, _∙_, ap}
-use mathlib.Core.List.{map, _∷_, []}
+use mathlib.Core.Path.{sym, _∙_, ap}
+use mathlib.Core.List.{map}
 use native.Mathlib.Omega.{arith}
 use Rattle.std.specs.Of.Vec.{vec-items, vec-len}
 use Rattle.std.proofs.shelf.Lists.{length-map, map-push}
 use Rattle.rules.specs.Lists.{all-of}
 use Rattle.rules.specs.Network.{joins-all}
-use Rattle.sheet.specs.Views.{node-of, leg-of, nodes-of, legs-of, path-legs, is-sound}
-use Rattle.sheet.proofs.Keeping.{drawn, node-keeps-legs, node-keeps-paths, leg-keeps-legs, leg-keeps-paths, path-keeps-paths}
+use Rattle.sheet.specs.Views.{leg-of, nodes-of, legs-of, path-legs, is-sound}
+use Rattle.sheet.proofs.Keeping.{drawn, leg-keeps-legs, leg-keeps-paths}
 use Rattle.sheet.proofs.sheet.Sheet.add_leg.Needs as need
 
 pub ghost-self : need.ghost-self
