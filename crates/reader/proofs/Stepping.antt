@@ -10,12 +10,12 @@ use Rattle.std.specs.declared.option.Option.the-variants.{Some, None}
 use Rattle.std.specs.declared.result.Result.the-variants.{Ok, Err}
 use Rattle.rules.specs.Network.{Drawing}
 use Rattle.rules.specs.Questions.{asked, answered, first-no, answer-to}
+use Rattle.rules.specs.declared.fault.Answer.{Answer}
 use Rattle.rules.specs.declared.fault.Fault.{Fault}
 use Rattle.sheet.specs.declared.question.SheetQuestion.{SheetQuestion}
-use Rattle.text.specs.Words.{word-of}
 use Rattle.text.specs.declared.question.TextQuestion.the-variants.{KnownWord}
 use Rattle.text.specs.declared.word.Word.{Word}
-use Rattle.reader.specs.Case.{first-word, figures-of, moves, figure-questions, text-first, sheet-questions, acting-questions, acted, entered, of-sheet, is-past, Step, ends, leads, unless, line-step}
+use Rattle.reader.specs.Case.{moves, figure-questions, text-first, sheet-questions, acting-questions, acted, entered, of-sheet, is-past, Step, ends, leads, unless, said-step}
 use Rattle.reader.specs.Order.{next-stage}
 use Rattle.reader.specs.declared.stage.Stage.{Stage}
 use Rattle.reader.specs.declared.stage.Stage.the-variants.{Nodes, Legs, Paths, Past}
@@ -34,21 +34,19 @@ not-past Legs h = refl
 not-past Paths h = refl
 not-past Past h = absurd (h refl)
 
-module _ (st : Stage) (d : Drawing) (l : List ℕ) where
+module _ (st : Stage) (d : Drawing) (count : ℕ) (each : Answer) (figs : List ℕ) where
   -- a line's step as a function of its word, and of the stage that the word leads to
   abbrev step-at : Option Word → Option Stage → Step
   step-at x y =
-      elim (is-past y) [
-        | true ↦ ends
-        | false ↦ unless (text-first (first-no (asked KnownWord (answered (isSome y)) ∷ figure-questions x l)) (first-no (acting-questions d x (figures-of l)))) (valueOr y st) (acted d x (figures-of l))
-      ]
+      elim (is-past y) [ true ↦ ends | false ↦ unless (text-first (first-no (asked KnownWord (answered (isSome y)) ∷ figure-questions x count each)) (first-no (acting-questions d x figs))) (valueOr y st) (acted d x figs) ]
 
-  pub step-is : (w : Word) (st′ : Stage) (o : Option (Fault SheetQuestion)) → word-of (first-word l) ≡ Some w → next-stage st w ≡ Some st′ → (st′ ≡ Past → ⊥)
-      → first-no (figure-questions (Some w) l) ≡ None → first-no (sheet-questions d w (figures-of l)) ≡ o
-      → line-step st d l ≡ unless (mapped of-sheet o) st′ (entered d w (figures-of l))
-  step-is w st′ o known goes np fine is =
-      ap (λ x. step-at x (moves st x)) known
+  -- of a line that passes the questions of the text, by the first question of the sheet that it fails
+  pub step-is : (x : Option Word) (w : Word) (st′ : Stage) (o : Option (Fault SheetQuestion)) → x ≡ Some w → next-stage st w ≡ Some st′ → (st′ ≡ Past → ⊥)
+      → first-no (figure-questions (Some w) count each) ≡ None → first-no (sheet-questions d w figs) ≡ o
+      → said-step st d x count each figs ≡ unless (mapped of-sheet o) st′ (entered d w figs)
+  step-is x w st′ o known goes np fine is =
+      ap (λ y. step-at y (moves st y)) known
       ∙ ap (step-at (Some w)) goes
-      ∙ ap (λ b. elim b [ true ↦ ends | false ↦ unless (text-first (first-no (figure-questions (Some w) l)) (first-no (sheet-questions d w (figures-of l)))) st′ (entered d w (figures-of l)) ]) (not-past st′ np)
-      ∙ ap (λ t. unless (text-first t (first-no (sheet-questions d w (figures-of l)))) st′ (entered d w (figures-of l))) fine
-      ∙ ap (λ t. unless (mapped of-sheet t) st′ (entered d w (figures-of l))) is
+      ∙ ap (λ b. elim b [ true ↦ ends | false ↦ unless (text-first (first-no (figure-questions (Some w) count each)) (first-no (sheet-questions d w figs))) st′ (entered d w figs) ]) (not-past st′ np)
+      ∙ ap (λ t. unless (text-first t (first-no (sheet-questions d w figs))) st′ (entered d w figs)) fine
+      ∙ ap (λ t. unless (mapped of-sheet t) st′ (entered d w figs)) is

@@ -12,6 +12,7 @@ use Rattle.std.specs.declared.result.Result.{Result}
 use Rattle.std.specs.declared.result.Result.the-variants.{Ok, Err}
 use Rattle.rules.specs.Network.{Drawing, DrawnLeg}
 use Rattle.rules.specs.Questions.{Asked, asked, answered, each-from, first-no, answer-to}
+use Rattle.rules.specs.declared.fault.Answer.{Answer}
 use Rattle.rules.specs.declared.fault.Fault.{Fault}
 use Rattle.sheet.specs.Asks.{node-questions, leg-questions, path-questions, marked, drawn-leg, with-node, with-leg, with-path}
 use Rattle.sheet.specs.Sheets.{drawing, nothing-drawn}
@@ -50,15 +51,12 @@ abbrev pub fits : Option Word → ℕ → Bool
 fits None n = true
 fits (Some w) n = count-fits (figures-expected w) n
 
-abbrev pub figure-questions : Option Word → List ℕ → List (Asked TextQuestion)
-figure-questions w l =
-    asked FigureCount (answered (fits w (length (figure-words l))))
-    ∷ (asked Figures (each-from 2 is-figure (figure-words l))
-    ∷ [])
-
 -- a known word in its turn, the right count of figures, and each of them a figure
-abbrev pub text-questions : Stage → List ℕ → List (Asked TextQuestion)
-text-questions st l = asked KnownWord (answered (isSome (moves st (word-of (first-word l))))) ∷ figure-questions (word-of (first-word l)) l
+abbrev pub figure-questions : Option Word → ℕ → Answer → List (Asked TextQuestion)
+figure-questions w count each = asked FigureCount (answered (fits w count)) ∷ (asked Figures each ∷ [])
+
+abbrev pub text-questions : Stage → Option Word → ℕ → Answer → List (Asked TextQuestion)
+text-questions st w count each = asked KnownWord (answered (isSome (moves st w))) ∷ figure-questions w count each
 
 -- the figure of this number on a line, 0 where there is none
 abbrev pub nth-figure : List ℕ → ℕ → ℕ
@@ -116,8 +114,8 @@ abbrev pub text-first : Option (Fault TextQuestion) → Option (Fault SheetQuest
 text-first (Some f) o = Some (of-text f)
 text-first None o = mapped of-sheet o
 
-abbrev pub line-fault : Stage → Drawing → List ℕ → Option (Fault Question)
-line-fault st d l = text-first (first-no (text-questions st l)) (first-no (acting-questions d (word-of (first-word l)) (figures-of l)))
+abbrev pub line-fault : Stage → Drawing → Option Word → ℕ → Answer → List ℕ → Option (Fault Question)
+line-fault st d w count each figs = text-first (first-no (text-questions st w count each)) (first-no (acting-questions d w figs))
 
 abbrev pub is-past : Option Stage → Bool
 is-past None = false
@@ -136,12 +134,13 @@ abbrev pub unless : Option (Fault Question) → Stage → Drawing → Step
 unless (Some f) st d = fails f
 unless None st d = leads st d
 
+-- by its word, the count of its figures, whether each is one, and their values
+abbrev pub said-step : Stage → Drawing → Option Word → ℕ → Answer → List ℕ → Step
+said-step st d w count each figs =
+    elim (is-past (moves st w)) [ true ↦ ends | false ↦ unless (line-fault st d w count each figs) (valueOr (moves st w) st) (acted d w figs) ]
+
 abbrev pub line-step : Stage → Drawing → List ℕ → Step
-line-step st d l =
-    elim (is-past (moves st (word-of (first-word l)))) [
-      | true ↦ ends
-      | false ↦ unless (line-fault st d l) (valueOr (moves st (word-of (first-word l))) st) (acted d (word-of (first-word l)) (figures-of l))
-    ]
+line-step st d l = said-step st d (word-of (first-word l)) (length (figure-words l)) (each-from 2 is-figure (figure-words l)) (figures-of l)
 
 abbrev pub at-line : ℕ → Fault Question → CaseFault
 at-line n f = record { question = f .question; line = n; place = f .place }

@@ -2,17 +2,19 @@
 use mathlib.Core.Path.{_≡_}
 use mathlib.Core.List.{List}
 use Prim.Native.Nat.{ℕ}
+use lib.ListN.{length}
 use Rattle.std.specs.declared.option.Option.{Option}
 use Rattle.std.specs.declared.option.Option.the-variants.{Some, None}
 use Rattle.std.specs.declared.result.Result.{Result}
 use Rattle.std.specs.declared.result.Result.the-variants.{Ok, Err}
-use Rattle.rules.specs.Questions.{first-no}
+use Rattle.rules.specs.Questions.{Asked, each-from, first-no}
 use Rattle.rules.specs.declared.fault.Fault.{Fault}
 use Rattle.sheet.specs.Sheets.{drawing, nothing-drawn}
+use Rattle.text.specs.Figures.{is-figure}
 use Rattle.text.specs.Words.{word-of}
 use Rattle.text.specs.declared.question.TextQuestion.{TextQuestion}
 use Rattle.text.specs.declared.word.Word.{Word}
-use Rattle.reader.specs.Case.{first-word, figures-of, moves, figure-questions, line-step, read-lines, ends, fails, leads}
+use Rattle.reader.specs.Case.{first-word, figure-words, figures-of, moves, figure-questions, line-step, read-lines, ends, fails, leads}
 use Rattle.reader.specs.Order.{next-stage}
 use Rattle.reader.specs.declared.stage.Stage.{Stage}
 use Rattle.reader.specs.declared.stage.Stage.the-variants.{Nodes}
@@ -27,9 +29,13 @@ abbrev pub Turns : Stage → Stage → List ℕ → Option Word → Type 0
 Turns st st′ l None = moves st (word-of (first-word l)) ≡ None
 Turns st st′ l (Some w) = (word-of (first-word l) ≡ Some w) × (next-stage st w ≡ Some st′)
 
+-- the questions on a line's figures
+abbrev pub figures-asked : Word → List ℕ → List (Asked TextQuestion)
+figures-asked w l = figure-questions (Some w) (length (figure-words l)) (each-from 2 is-figure (figure-words l))
+
 abbrev pub Figured : Word → List ℕ → List ℕ → Result (Unit {0}) (Fault TextQuestion) → Type 0
-Figured w l into (Ok x) = (first-no (figure-questions (Some w) l) ≡ None) × (into ≡ figures-of l)
-Figured w l into (Err f) = first-no (figure-questions (Some w) l) ≡ Some f
+Figured w l into (Ok x) = (first-no (figures-asked w l) ≡ None) × (into ≡ figures-of l)
+Figured w l into (Err f) = first-no (figures-asked w l) ≡ Some f
 
 -- the reader b after the reader a took a line
 abbrev pub Steps : Reader → Reader → List ℕ → Result Flow (Fault Question) → Type 0

@@ -10,4 +10,4 @@ sub-count-words c = omega (arith, c .count-words .ensures, words-some 32 (c .arg
 -- a line has no more figures than there is room for
 pub unreachable-requires : need.unreachable-requires
 unreachable-requires c κs =
-    omega (arith, c .in-Err .ensures tt .reads, ap length (c .first-word .ensures .front), words-few 32 (c .args .line .now), c .pre .few, c .pre .room)
+    omega (arith, c .in-Err .ensures tt .reads .full, ap length (c .first-word .ensures .front), words-few 32 (c .args .line .now), c .pre .few, c .pre .room)

@@ -15,6 +15,7 @@ Inv-loop-n l =
     × (vec-items (l .into) ++ map value (words (l .left)) ≡ map value (words (l .rest)))
     × (l .place + length (l .left) ≤ 2 + length (l .rest))
     × (vec-cap (l .entry .into) ≤ vec-cap (l .into))
+    × (l .place ≡ 2 + length (vec-items (l .into)))
 
 abbrev pub μ-loop-n : given.MeasureT-loop-n
 μ-loop-n l = length (l .left)
