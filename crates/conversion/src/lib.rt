@@ -25,6 +25,7 @@ mod tests {
             ("node\t1 0 0 0\n", "fault text 2 1 0\n"),
             ("node 1 0 0 0\r\n", "fault text 4 1 5\n"),
             ("node 1 0 0\n", "fault text 3 1 0\n"),
+            ("node x 0 0\n", "fault text 3 1 0\n"),
             ("node 1 0 0 0 0\n", "fault text 3 1 0\n"),
             ("node 1 0 0 0 \n", "fault text 3 1 0\n"),
             ("node 1  0 0\n", "fault text 4 1 3\n"),
@@ -76,6 +77,19 @@ mod tests {
             goes_on(&rt, text, expected)?;
         }
         Ok(())
+    }
+
+    #[test]
+    fn bids_on_each_path(rt: LibcRuntime) -> Result<(), Fail> {
+        let (Some(high), Some(low)) = (bid(b"500"), bid(b"-100")) else {
+            return Err(Fail::new("no bid"));
+        };
+        let text =
+            "node 1 0 0 0\nnode 2 0 0 0\nleg 0 1 50000 30000 100\nleg 1 0 0 0 0\npath 0\npath 1\n";
+        let out = convert(rt.alloc(), text.as_bytes(), &[high, low])?;
+        let expected =
+            "path 0 0 1 950000 28500000000\nclaim 0 500 446500000000\nclaim 0 -100 -123500000000\npath 1 1 0 1000000 0\nclaim 1 500 500000000000\nclaim 1 -100 -100000000000\n";
+        check_eq(out.as_str(), expected)
     }
 
     #[test]

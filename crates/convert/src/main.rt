@@ -14,7 +14,7 @@ fn bids(rt: &LibcRuntime) -> Result<Vec<Yuan>, AnyError> {
         let Some(yuan) = bid(word.as_bytes()) else {
             let message = format!(
                 rt.alloc(),
-                "{word} is no bid: write a whole number of yuan from -1000 to 10000"
+                "'{word}' is no bid: write a whole number of yuan from -1000 to 10000"
             )?;
             return Err(message.into());
         };

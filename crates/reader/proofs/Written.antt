@@ -139,9 +139,10 @@ acts-alike n st d (c ∷ cs) h =
     let p = and-parts (short-figures c) _ h in
     ap (follow n d (map written-line cs)) (step-back c (p .0) st d)
     ∙ elim (takes st d c) as (λ s. follow n d (map written-line cs) s ≡ taken n d cs s) [
-        ends ↦ refl
+      | ends ↦ refl
       | fails g ↦ refl
-      | leads t e ↦ acts-alike (n + 1) t e cs (p .1) ]
+      | leads t e ↦ acts-alike (n + 1) t e cs (p .1)
+    ]
 
 same-fault : {A : Type 0} (n : ℕ) (g : Fault Question) (f : CaseFault) → _≡_ {A = Result A CaseFault} (Err (at-line n g)) (Err f) → at-line n g ≡ f
 same-fault n g f e = cc
@@ -151,9 +152,10 @@ module _ (f : CaseFault) where
   decides n st d [] more h = absurd (not-err d f h)
   decides n st d (l ∷ ls) more h =
       elim (line-step st d l) as (λ s. follow n d ls s ≡ Err f → follow n d (ls ++ more) s ≡ Err f) [
-        ends ↦ λ k. absurd (not-err d f k)
-      | fails g ↦ λ k. k
-      | leads t e ↦ λ k. decides (n + 1) t e ls more k ] h
+        | ends ↦ λ k. absurd (not-err d f k)
+        | fails g ↦ λ k. k
+        | leads t e ↦ λ k. decides (n + 1) t e ls more k
+      ] h
 
   one-before : (n : ℕ) (st t : Stage) (d e : Drawing) (l : List ℕ) (ls : List (List ℕ)) → line-step st d l ≡ leads t e → FirstFault (n + 1) t e ls f → FirstFault n st d (l ∷ ls) f
   one-before n st t d e l ls is p = record {
@@ -172,21 +174,22 @@ module _ (f : CaseFault) where
   first-fault n st d [] h = absurd (not-err d f h)
   first-fault n st d (l ∷ ls) h =
       elim (line-step st d l) as (λ s. line-step st d l ≡ s → follow n d ls s ≡ Err f → FirstFault n st d (l ∷ ls) f) [
-        ends ↦ λ is k. absurd (not-err d f k)
-      | fails g ↦ λ is k.
-          let same = same-fault n g f k in
-          record {
-            front = [];
-            line = l;
-            back = ls;
-            stage = st;
-            drawn = d;
-            splits = refl;
-            number = sym (ap (λ (x : CaseFault). x .line) same) ∙ sym (add-zero n);
-            before = (refl, refl);
-            here = is ∙ ap (λ (x : CaseFault). fails (record { question = x .question; place = x .place })) same;
-          }
-      | leads t e ↦ λ is k. one-before n st t d e l ls is (first-fault (n + 1) t e ls k) ] refl h
+        | ends ↦ λ is k. absurd (not-err d f k)
+        | fails g ↦ λ is k.
+            let same = same-fault n g f k in
+            record {
+              front = [];
+              line = l;
+              back = ls;
+              stage = st;
+              drawn = d;
+              splits = refl;
+              number = sym (ap (λ (x : CaseFault). x .line) same) ∙ sym (add-zero n);
+              before = (refl, refl);
+              here = is ∙ ap (λ (x : CaseFault). fails (record { question = x .question; place = x .place })) same;
+            }
+        | leads t e ↦ λ is k. one-before n st t d e l ls is (first-fault (n + 1) t e ls k)
+      ] refl h
 
 pub reading-stands : Reading-stands
 reading-stands = record {

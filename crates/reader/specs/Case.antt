@@ -11,11 +11,11 @@ use Rattle.std.specs.declared.option.Option.the-variants.{Some, None}
 use Rattle.std.specs.declared.result.Result.{Result}
 use Rattle.std.specs.declared.result.Result.the-variants.{Ok, Err}
 use Rattle.rules.specs.Network.{Drawing, DrawnLeg}
-use Rattle.rules.specs.Questions.{Asked, asked, answered, each-from, first-no, answer-to}
+use Rattle.rules.specs.Questions.{Asked, asked, answered, each-from, first-no}
 use Rattle.rules.specs.declared.fault.Answer.{Answer}
 use Rattle.rules.specs.declared.fault.Fault.{Fault}
 use Rattle.sheet.specs.Asks.{node-questions, leg-questions, path-questions, marked, drawn-leg, with-node, with-leg, with-path}
-use Rattle.sheet.specs.Sheets.{drawing, nothing-drawn}
+use Rattle.sheet.specs.Sheets.{drawing, nothing-drawn, Enters}
 use Rattle.sheet.specs.declared.question.SheetQuestion.{SheetQuestion}
 use Rattle.sheet.specs.declared.sheet.Sheet.{Sheet}
 use Rattle.text.specs.Pieces.{lines, words}
@@ -87,13 +87,8 @@ entered d Buy figs = d
 entered d Go figs = d
 
 -- the sheet t after a line acted on the sheet s
-abbrev pub Shows : Sheet → Sheet → Drawing → Result (Unit {0}) (Fault SheetQuestion) → Type 0
-Shows s t d (Ok x) = drawing t ≡ d
-Shows s t d (Err f) = t ≡ s
-
-pub record Acts (s t : Sheet) (w : Word) (figs : List ℕ) (r : Result (Unit {0}) (Fault SheetQuestion)) : Type 0 where
-  pub answers : r ≡ answer-to (first-no (sheet-questions (drawing s) w figs)) tt
-  pub leaves : Shows s t (entered (drawing s) w figs) r
+abbrev pub Acts : Sheet → Sheet → Word → List ℕ → Result (Unit {0}) (Fault SheetQuestion) → Type 0
+Acts s t w figs r = Enters s t (sheet-questions (drawing s) w figs) tt (entered (drawing s) w figs) r
 
 abbrev pub acting-questions : Drawing → Option Word → List ℕ → List (Asked SheetQuestion)
 acting-questions d None figs = []

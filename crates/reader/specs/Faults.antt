@@ -2,7 +2,7 @@
 use Prim.Native.Nat.{ℕ}
 use Rattle.rules.specs.declared.fault.Layer.{Layer}
 use Rattle.rules.specs.declared.fault.Layer.the-variants as layers
-use Rattle.text.specs.Asks as text
+use Rattle.text.specs.Numbers as text
 use Rattle.sheet.specs.Numbers as sheet
 use Rattle.reader.specs.declared.fault.Question.{Question}
 use Rattle.reader.specs.declared.fault.Question.the-variants.{Text, Sheet}

@@ -20,15 +20,15 @@ stage-of Sell = Past
 stage-of Buy = Past
 stage-of Go = Past
 
-abbrev pub turn : Stage → ℕ
-turn Nodes = 0
-turn Legs = 1
-turn Paths = 2
-turn Past = 3
+abbrev pub rank : Stage → ℕ
+rank Nodes = 0
+rank Legs = 1
+rank Paths = 2
+rank Past = 3
 
 -- a word is in its turn where none that comes later in the order was met
 abbrev pub next-stage : Stage → Word → Option Stage
-next-stage st w = cond (leb (turn st) (turn (stage-of w))) (Some (stage-of w)) None
+next-stage st w = cond (leb (rank st) (rank (stage-of w))) (Some (stage-of w)) None
 
 -- a node line has 4 figures, a leg line 5, a path line any count
 abbrev pub figures-expected : Word → Option ℕ

@@ -26,13 +26,13 @@ abbrev pub nothing-drawn : Drawing
 nothing-drawn = record { nodes = []; legs = []; paths = [] }
 
 -- the sheet t shows d where the item was taken, and is s where it was refused
-abbrev pub Leaves : Sheet → Sheet → Drawing → Result ℕ (Fault SheetQuestion) → Type 0
-Leaves s t d (Ok n) = drawing t ≡ d
+abbrev pub Leaves : {A : Type 0} → Sheet → Sheet → Drawing → Result A (Fault SheetQuestion) → Type 0
+Leaves s t d (Ok a) = drawing t ≡ d
 Leaves s t d (Err f) = t ≡ s
 
--- an item entered on s, with these questions, as number n of its kind, so that the sheet then shows d
-pub record Enters (s t : Sheet) (qs : List (Asked SheetQuestion)) (n : ℕ) (d : Drawing) (r : Result ℕ (Fault SheetQuestion)) : Type 0 where
-  pub answers : r ≡ answer-to (first-no qs) n
+-- an item entered on s, with these questions and the answer a where it is taken, so that the sheet then shows d
+pub record Enters {A : Type 0} (s t : Sheet) (qs : List (Asked SheetQuestion)) (a : A) (d : Drawing) (r : Result A (Fault SheetQuestion)) : Type 0 where
+  pub answers : r ≡ answer-to (first-no qs) a
   pub leaves : Leaves s t d r
 
 abbrev pub EntersNode : Sheet → Sheet → ℕ → ℕ → ℕ → ℕ → Result ℕ (Fault SheetQuestion) → Type 0

@@ -1,6 +1,6 @@
 pub mod Pieces
 pub mod Figures
 pub mod Words
-pub mod Asks
+pub mod Numbers
 pub mod Rows
 pub mod Format

@@ -1,7 +1,7 @@
 ghost use mathlib.Core.Path.{_≡_};
-ghost use Rattle.text.specs.Asks.{number};
+ghost use Rattle.text.specs.Numbers.{number};
 
-// What is asked of a line as text, before its meaning.
+// What is asked of a text, and then of each of its lines.
 #[derive(Clone, Copy, PartialEq, Eq, Debug)]
 pub enum TextQuestion {
     Length,

@@ -57,8 +57,8 @@ returns-in-rest c =
         each = search needs;
         values = λ e. absurd (let z : _≡_ {A = ℕ} 0 1 = cc in omega arith);
         before = λ p e.
-          let same : c .loop-n .place ≡ p = cc in
-          so-far was (c .loop-n .left .now) (c .args .rest .now) (c .loop-n .place) (c .loop-n .inv .1) (c .loop-n .inv .4) ∙ ap (λ n. map value (take (n - 2) (words (c .args .rest .now)))) same;
+            let same : c .loop-n .place ≡ p = cc in
+            so-far was (c .loop-n .left .now) (c .args .rest .now) (c .loop-n .place) (c .loop-n .inv .1) (c .loop-n .inv .4) ∙ ap (λ n. map value (take (n - 2) (words (c .args .rest .now)))) same;
       };
       room = c .loop-n .inv .3;
     }

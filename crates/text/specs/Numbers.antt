@@ -1,4 +1,4 @@
--- What is asked of each line of a text, in this order.
+-- The numbers of the questions on a text and its lines.
 use Prim.Native.Nat.{ℕ}
 use Rattle.text.specs.declared.question.TextQuestion.{TextQuestion}
 use Rattle.text.specs.declared.question.TextQuestion.the-variants.{Length, KnownWord, FigureCount, Figures}
