@@ -81,7 +81,10 @@ mod tests {
 
     #[test]
     fn bids_on_each_path(rt: LibcRuntime) -> Result<(), Fail> {
-        let (Some(high), Some(low)) = (bid(b"500"), bid(b"-100")) else {
+        let Some(high) = bid(b"500") else {
+            return Err(Fail::new("no bid"));
+        };
+        let Some(low) = bid(b"-100") else {
             return Err(Fail::new("no bid"));
         };
         let text =
