@@ -6,12 +6,10 @@ use lib.IntN.{ℤ, pos, negsuc}
 use lib.Signed.{leZ}
 use Rattle.std.specs.declared.option.Option.{Option}
 use Rattle.std.specs.declared.option.Option.the-variants.{Some, None}
+use Rattle.rules.specs.Offers.{is-offer}
 use Rattle.text.specs.Figures.{signed-figure-of}
 
--- from -1,000 to 10,000 yuan
-abbrev pub is-offer : ℤ → Bool
-is-offer z = leZ (negsuc 999) z && leZ z (pos 10000)
-
+-- a bid is an offer
 abbrev pub if-offer : Option ℤ → Option ℤ
 if-offer None = None
 if-offer (Some z) = cond (is-offer z) (Some z) None

@@ -4,3 +4,4 @@ pub mod Network
 pub mod ConvertLaws
 pub mod Questions
 pub mod Layers
+pub mod Offers
