@@ -54,6 +54,14 @@ charged-high (s ∷ ss) y h k =
     let t : s .tariff * passed (s .rate) y ≤ 1000000 * 1000000 = mul-le-mul (legal-tariff s (and-parts (legal s) _ h .0)) p in
     omega (arith, t, charged-high ss (passed (s .rate) y) (and-parts (legal s) _ h .1) p)
 
+as-many-enter : (ss : List Stretch) (y : ℕ) → length (entering y ss) ≡ length ss
+as-many-enter [] y = refl
+as-many-enter (s ∷ ss) y = ap suc (as-many-enter ss (passed (s .rate) y))
+
+as-many-leave : (ss : List Stretch) (y : ℕ) → length (leaving y ss) ≡ length ss
+as-many-leave [] y = refl
+as-many-leave (s ∷ ss) y = ap suc (as-many-leave ss (passed (s .rate) y))
+
 enters-next : (ss : List Stretch) (y k : ℕ) → suc k < length ss → getD (entering y ss) (suc k) 0 ≡ getD (leaving y ss) k 0
 enters-next [] y k h = absurd (omega arith)
 enters-next (s ∷ []) y k h = absurd (omega arith)
@@ -84,6 +92,8 @@ yield-low ss few each = omega (arith, worn-low (length ss) few, landed-low ss on
 
 pub converts : (ss : List Stretch) → Chain ss → Converts ss
 converts ss c = record {
+  as-many-enter = as-many-enter ss one-mw;
+  as-many-leave = as-many-leave ss one-mw;
   first-enters = first-enters ss (c .some);
   enters-next = λ k h. let l : suc k < length ss = omega arith in rw add-one (enters-next ss one-mw k l);
   leaves = leaves ss one-mw;

@@ -31,6 +31,8 @@ pub record Chain (ss : List Stretch) : Type 0 where
   pub each : all-of legal ss ≡ true
 
 pub record Converts (ss : List Stretch) : Type 0 where
+  pub as-many-enter : length (entering one-mw ss) ≡ length ss
+  pub as-many-leave : length (leaving one-mw ss) ≡ length ss
   pub first-enters : getD (entering one-mw ss) 0 0 ≡ one-mw
   pub enters-next : (k : ℕ) → k + 1 < length ss → getD (entering one-mw ss) (k + 1) 0 ≡ getD (leaving one-mw ss) k 0
   pub leaves : (k : ℕ) (d : Stretch) → k < length ss → getD (leaving one-mw ss) k 0 ≡ passed (getD ss k d .rate) (getD (entering one-mw ss) k 0)
