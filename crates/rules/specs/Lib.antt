@@ -5,3 +5,4 @@ pub mod ConvertLaws
 pub mod Questions
 pub mod Layers
 pub mod Offers
+pub mod QuestionLaws
