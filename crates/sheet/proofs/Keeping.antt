@@ -17,9 +17,10 @@ use Rattle.rules.specs.ConvertLaws.{Chain}
 use Rattle.rules.proofs.Chains.{converts}
 use Rattle.rules.proofs.Alls.{all-of-at, all-of-push, all-of-mono}
 use Rattle.rules.proofs.Networks.{held, holds-with-node, holds-with-leg, routed-kept, joins-more}
+use Rattle.sheet.proofs.Chaining.{leg-read}
 use Rattle.sheet.proofs.Passing.{few-legs}
 use Rattle.sheet.proofs.Tracing.{legal-all}
-use Rattle.sheet.specs.Sheets.{PathRead}
+use Rattle.sheet.specs.Sheets.{LegRead, PathRead}
 use Rattle.sheet.specs.Views.{node-of, leg-of, nodes-of, legs-of, path-legs, route-of, is-sound}
 use Rattle.sheet.specs.declared.node.Node.{Node}
 use Rattle.sheet.specs.declared.leg.Leg.{Leg}
@@ -103,6 +104,16 @@ module _ (ns : List Node) (ls : List Leg) (ps : List Path) (m : ℕ) (many : m �
 
   pub path-keeps-paths : (p : Path) → path-holds (nodes-of ns) (legs-of ls) (path-legs p) ≡ true → route-of p ≡ routed (legs-of ls) (path-legs p) → all-of (is-sound (nodes-of ns) (legs-of ls)) (ps ++ (p ∷ [])) ≡ true
   path-keeps-paths p h e = all-of-push (is-sound (nodes-of ns) (legs-of ls)) ps p sound (sound-from (nodes-of ns) (legs-of ls) p h e)
+
+pub leg-read-back : (ns : List DrawnNode) (ls : List Leg) (ps : List (List ℕ)) → joins-all (length ns) (legs-of ls) ≡ true → (k : ℕ) (l : Leg) → k < length (legs-of ls) → l ≡ getD ls k l → LegRead (drawn ns (legs-of ls) ps) k l
+leg-read-back ns ls ps j k l h e =
+    let figures = leg-read ls k l (omega (arith, length-map ls leg-of)) e in
+    record {
+      entered = h;
+      figures = figures;
+      joined = all-of-at (joins (length ns)) (legs-of ls) k _ j h;
+      apart = λ same. l .apart (ap (λ (x : DrawnLeg). x .from) figures ∙ same ∙ sym (ap (λ (x : DrawnLeg). x .to) figures));
+    }
 
 pub path-read : (ns : List DrawnNode) (ls : List Leg) (ps : List Path) → all-of (is-sound ns (legs-of ls)) ps ≡ true → (k : ℕ) (p : Path) → k < length (map path-legs ps) → p ≡ getD ps k p → PathRead (drawn ns (legs-of ls) (map path-legs ps)) k p
 path-read ns ls ps h k p l e =

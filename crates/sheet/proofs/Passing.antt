@@ -3,7 +3,6 @@ use mathlib.Core.Path.{_≡_, refl, sym, _∙_, ap, subst}
 use mathlib.Core.List.{List, [], _∷_, _++_, append-assoc, append-nil}
 use mathlib.Core.Bool.{Bool, true, false, not}
 use Prim.Native.Nat.{ℕ, _+_, _≤_, _<_}
-use native.Mathlib.Omega.{arith}
 use lib.Dec.{eqb, leb, ltb}
 use lib.ListN.{length}
 use Rattle.std.proofs.shelf.Tests.{and-parts, and-from, or-parts, or-from, not-true, not-from-false, eqb-false, ne-eqb, leb-true}
@@ -11,13 +10,13 @@ use Rattle.std.proofs.shelf.Lists.{length-map}
 use Rattle.std.specs.declared.result.Result.{Result}
 use Rattle.std.specs.declared.result.Result.the-variants.{Ok, Err}
 use Rattle.std.specs.declared.option.Option.the-variants.{Some, None}
-use Rattle.rules.specs.Lists.{all-of, has}
+use Rattle.rules.specs.Lists.{has}
 use Rattle.rules.specs.Network.{DrawnNode, DrawnLeg, leg-at, start-of, ends-of, chained-from, chained, nodes-met, no-twice, one-to-eight, all-entered, path-holds, joins-all, end-of}
 use Rattle.rules.specs.Questions.{Asked, asked, answered, each-from, first-no}
 use Rattle.rules.specs.declared.fault.Fault.{Fault}
 use Rattle.rules.specs.declared.fault.Answer.{Answer}
 use Rattle.rules.specs.declared.fault.Answer.the-variants.{Yes, No}
-use Rattle.rules.proofs.Asking.{asks-on, asks-stop}
+use Rattle.rules.proofs.Asking.{never, passes, asks-on, asks-stop, each-all}
 use Rattle.rules.proofs.Networks.{holds, ends-inside}
 use Rattle.sheet.specs.Asks.{legs-answer, chain-from, chain-answer, nodes-from, nodes-answer, ends-trade, chain-questions}
 use Rattle.sheet.specs.Checks.{Checked, PathOf}
@@ -28,23 +27,10 @@ use Rattle.sheet.specs.declared.path.Path.{Path}
 use Rattle.sheet.specs.declared.question.SheetQuestion.{SheetQuestion}
 use Rattle.sheet.specs.declared.question.SheetQuestion.the-variants.{PathLegs, PathChain, PathNodes, PathEnds}
 
-never : {i : ℕ} → No i ≡ Yes → ⊥
-never e = let z : _≡_ {A = ℕ} 0 1 = cc in omega arith
-
--- a test whose no ends the question
-passes : (b : Bool) (i : ℕ) (a : Answer) → (elim b [ true ↦ a | false ↦ No i ]) ≡ Yes → (b ≡ true) × (a ≡ Yes)
-passes true i a h = (refl, h)
-passes false i a h = absurd (never h)
-
+-- a test whose yes ends the question
 clears : (b : Bool) (i : ℕ) (a : Answer) → (elim b [ true ↦ No i | false ↦ a ]) ≡ Yes → (b ≡ false) × (a ≡ Yes)
 clears true i a h = absurd (never h)
 clears false i a h = (refl, h)
-
-each-all : (f : ℕ → Bool) (i : ℕ) (ks : List ℕ) → each-from i f ks ≡ Yes → all-of f ks ≡ true
-each-all f i [] h = refl
-each-all f i (k ∷ ks) h =
-    let p = passes (f k) i (each-from (i + 1) f ks) h in
-    and-from (f k) _ (p .0) (each-all f (i + 1) ks (p .1))
 
 pub legs-pass : (n : ℕ) (ks : List ℕ) → legs-answer n ks ≡ Yes → (one-to-eight ks ≡ true) × (all-entered n ks ≡ true)
 legs-pass n ks h =

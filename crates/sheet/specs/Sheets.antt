@@ -7,7 +7,7 @@ use lib.ListN.{length, getD}
 use Rattle.std.specs.Of.Vec.{vec-items}
 use Rattle.std.specs.declared.result.Result.{Result}
 use Rattle.std.specs.declared.result.Result.the-variants.{Ok, Err}
-use Rattle.rules.specs.Network.{Drawing, DrawnLeg, node-at, leg-at, path-holds, routed}
+use Rattle.rules.specs.Network.{Drawing, DrawnLeg, node-at, leg-at, joins, path-holds, routed}
 use Rattle.rules.specs.Questions.{Asked, first-no, answer-to}
 use Rattle.rules.specs.declared.fault.Fault.{Fault}
 use Rattle.sheet.specs.declared.question.SheetQuestion.{SheetQuestion}
@@ -45,7 +45,7 @@ EntersLeg s t l r = Enters s t (leg-questions (drawing s) l) (length (drawing s 
 abbrev pub EntersPath : Sheet → Sheet → List ℕ → Result ℕ (Fault SheetQuestion) → Type 0
 EntersPath s t ks r = Enters s t (path-questions (drawing s) ks) (length (drawing s .paths)) (with-path (drawing s) ks) r
 
--- what is read of node k and of leg k: what was entered
+-- what is read of node k and of leg k: what was entered; a leg joins two of the nodes
 pub record NodeRead (d : Drawing) (k : ℕ) (n : Node) : Type 0 where
   pub entered : k < length (d .nodes)
   pub figures : node-of n ≡ node-at (d .nodes) k
@@ -53,6 +53,8 @@ pub record NodeRead (d : Drawing) (k : ℕ) (n : Node) : Type 0 where
 pub record LegRead (d : Drawing) (k : ℕ) (l : Leg) : Type 0 where
   pub entered : k < length (d .legs)
   pub figures : leg-of l ≡ leg-at (d .legs) k
+  pub joined : joins (length (d .nodes)) (leg-at (d .legs) k) ≡ true
+  pub apart : leg-at (d .legs) k .from ≡ leg-at (d .legs) k .to → ⊥
 
 -- what is read of path k: an entered path, whose legs, ends, yield, charge and flows are those of the rules, and within their bounds
 pub record PathRead (d : Drawing) (k : ℕ) (p : Path) : Type 0 where

@@ -3,9 +3,9 @@ ghost use Prim.Native.Nat.{_≤_, _<_};
 ghost use lib.ListN.{length};
 ghost use Rattle.std.specs.Options.{Cases};
 ghost use Rattle.rules.specs.Convert.{claim-of};
-ghost use Rattle.rules.specs.Network.{node-at, leg-at};
+ghost use Rattle.rules.specs.Network.{node-at};
 ghost use Rattle.sheet.specs.Sheets.{drawing, NodeRead, LegRead, PathRead};
-ghost use Rattle.sheet.specs.Views.{node-of, leg-of, passages-of};
+ghost use Rattle.sheet.specs.Views.{node-of, passages-of};
 use crate::leg::Leg;
 use crate::node::Node;
 use crate::path::Passage;
@@ -34,7 +34,7 @@ impl Sheet {
 
     fn leg_of(&self, number: usize) -> Leg
         requires { ⌜ number < length (drawing (now self) .legs) ⌝ }
-        ensures { λ r. ⌜ leg-of r ≡ leg-at (drawing (now (self .entry)) .legs) number ⌝ }
+        ensures { λ r. ⌜ LegRead (drawing (now (self .entry))) number r ⌝ }
     {
         self.legs[number]
     }
