@@ -1,5 +1,5 @@
 -- What a sheet keeps when something more is entered.
-use mathlib.Core.Path.{_≡_, refl, sym, _∙_, ap}
+use mathlib.Core.Path.{_≡_, refl, sym, _∙_, ap, subst}
 use mathlib.Core.List.{List, [], _∷_, _++_, map}
 use mathlib.Core.Bool.{true}
 use Prim.Native.Nat.{ℕ, _+_, _<_}
@@ -12,8 +12,7 @@ use Rattle.std.proofs.shelf.Tests.{and-parts, and-from, eqb-true, eq-eqb}
 use Rattle.std.proofs.shelf.Lists.{map-push, length-map, getD-map}
 use Rattle.rules.specs.Lists.{all-of}
 use Rattle.rules.specs.Network.{DrawnNode, DrawnLeg, Drawing, Route, same-route, joins-all, joins, path-holds, routed, stretch-at, stretches, one-to-eight, all-entered}
-use Rattle.rules.specs.Convert.{yield-of, charge-of}
-use Rattle.rules.specs.ConvertLaws.{Chain}
+use Rattle.rules.specs.ConvertLaws.{Chain, Converts}
 use Rattle.rules.proofs.Chains.{converts}
 use Rattle.rules.proofs.Alls.{all-of-at, all-of-push, all-of-mono}
 use Rattle.rules.proofs.Networks.{held, holds-with-node, holds-with-leg, routed-kept, joins-more}
@@ -123,16 +122,11 @@ path-read ns ls ps h k p l e =
     let sound : is-sound ns ds p ≡ true = ap (is-sound ns ds) e ∙ all-of-at (is-sound ns ds) ps k p h inside in
     let parts = sound-parts ns ds p sound in
     let path = held ns ds (path-legs p) (parts .0) in
-    let c = chain-of ls (path-legs p) (path .some) (path .entered) in
-    let bounds = converts (stretches ds (path-legs p)) c in
-    let yields : p .yields .watts ≡ yield-of (stretches ds (path-legs p)) = ap (λ (r : Route). r .yield) (parts .1) in
-    let charges : p .charge .billionths ≡ charge-of (stretches ds (path-legs p)) = ap (λ (r : Route). r .charge) (parts .1) in
+    let converted = converts (stretches ds (path-legs p)) (chain-of ls (path-legs p) (path .some) (path .entered)) in
     record {
       entered = l;
       legs = legs;
       a-path = ap (path-holds ns ds) (sym legs) ∙ parts .0;
       route = parts .1 ∙ ap (routed ds) legs;
-      yield-low = omega (arith, yields, bounds .yield-low);
-      yield-high = omega (arith, yields, bounds .yield-high);
-      charge-high = omega (arith, charges, bounds .charge-high);
+      converts = subst (λ ks. Converts (stretches ds ks)) legs converted;
     }

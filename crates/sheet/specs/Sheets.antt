@@ -2,12 +2,13 @@
 use mathlib.Core.Path.{_≡_}
 use mathlib.Core.List.{List, [], map}
 use mathlib.Core.Bool.{true}
-use Prim.Native.Nat.{ℕ, _≤_, _<_}
+use Prim.Native.Nat.{ℕ, _<_}
 use lib.ListN.{length, getD}
 use Rattle.std.specs.Of.Vec.{vec-items}
 use Rattle.std.specs.declared.result.Result.{Result}
 use Rattle.std.specs.declared.result.Result.the-variants.{Ok, Err}
-use Rattle.rules.specs.Network.{Drawing, DrawnLeg, node-at, leg-at, joins, path-holds, routed}
+use Rattle.rules.specs.ConvertLaws.{Converts}
+use Rattle.rules.specs.Network.{Drawing, DrawnLeg, node-at, leg-at, stretches, joins, path-holds, routed}
 use Rattle.rules.specs.Questions.{Asked, first-no, answer-to}
 use Rattle.rules.specs.declared.fault.Fault.{Fault}
 use Rattle.sheet.specs.declared.question.SheetQuestion.{SheetQuestion}
@@ -56,12 +57,10 @@ pub record LegRead (d : Drawing) (k : ℕ) (l : Leg) : Type 0 where
   pub joined : joins (length (d .nodes)) (leg-at (d .legs) k) ≡ true
   pub apart : leg-at (d .legs) k .from ≡ leg-at (d .legs) k .to → ⊥
 
--- what is read of path k: an entered path, whose legs, ends, yield, charge and flows are those of the rules, and within their bounds
+-- what is read of path k: an entered path, whose legs, ends, yield, charge and flows are those of the rules, which convert a MW sent along its legs
 pub record PathRead (d : Drawing) (k : ℕ) (p : Path) : Type 0 where
   pub entered : k < length (d .paths)
   pub legs : path-legs p ≡ getD (d .paths) k []
   pub a-path : path-holds (d .nodes) (d .legs) (getD (d .paths) k []) ≡ true
   pub route : route-of p ≡ routed (d .legs) (getD (d .paths) k [])
-  pub yield-low : 167772 ≤ p .yields .watts
-  pub yield-high : p .yields .watts ≤ 1000000
-  pub charge-high : p .charge .billionths ≤ 8000000000000
+  pub converts : Converts (stretches (d .legs) (getD (d .paths) k []))
