@@ -111,8 +111,8 @@ module _ {A : Type 0} (f : A → Bool) where
             (suc (r .0), (omega (arith, r .1 .0), record { inside = omega (arith, r .1 .1 .inside); fine-before = and-from (f x) _ (g .0) (r .1 .1 .fine-before); fails = r .1 .1 .fails }))
       ]
 
-  no : (k : ℕ) (xs : List A) (p : ℕ) → each-from k f xs ≡ No p → (k ≤ p) × FailsFirst f xs (p - k)
-  no k xs p h =
+  pub each-no : (k : ℕ) (xs : List A) (p : ℕ) → each-from k f xs ≡ No p → (k ≤ p) × FailsFirst f xs (p - k)
+  each-no k xs p h =
       let r = each-finds k xs p h in
       let e : r .0 ≡ p - k = omega (arith, r .1 .0) in
       (omega (arith, r .1 .0), subst (FailsFirst f xs) e (r .1 .1))
@@ -133,6 +133,6 @@ questions-stand Q A = record {
   some-from = some-from;
   yes = λ k f. each-all f k;
   yes-from = λ k f. all-each f k;
-  no = λ k f. no f k;
+  no = λ k f. each-no f k;
   no-from = λ k f. no-from f k;
 }

@@ -36,10 +36,10 @@ module _ (f : ℕ → Bool) (ks : List ℕ) (i : ℕ) where
 pub counts : (n : ℕ) (ks : List ℕ) → 1 ≤ length ks → length ks ≤ 8 → legs-answer n ks ≡ each-from 1 (λ k. ltb k n) ks
 counts n ks a b = let t : (leb 1 (length ks) && leb (length ks) 8) ≡ true = grind (arith, tells) in rw (t, legs-answer)
 
-chain-more : (ls : List DrawnLeg) (n i k : ℕ) (ks : List ℕ) → eqb (leg-at ls k .from) n ≡ true → chain-from ls n i (k ∷ ks) ≡ chain-from ls (leg-at ls k .to) (i + 1) ks
+pub chain-more : (ls : List DrawnLeg) (n i k : ℕ) (ks : List ℕ) → eqb (leg-at ls k .from) n ≡ true → chain-from ls n i (k ∷ ks) ≡ chain-from ls (leg-at ls k .to) (i + 1) ks
 chain-more ls n i k ks h = rw (h, chain-from)
 
-chain-ends : (ls : List DrawnLeg) (n i k : ℕ) (ks : List ℕ) → eqb (leg-at ls k .from) n ≡ false → chain-from ls n i (k ∷ ks) ≡ No i
+pub chain-ends : (ls : List DrawnLeg) (n i k : ℕ) (ks : List ℕ) → eqb (leg-at ls k .from) n ≡ false → chain-from ls n i (k ∷ ks) ≡ No i
 chain-ends ls n i k ks h = rw (h, chain-from)
 
 module _ (ls : List DrawnLeg) (n i : ℕ) (xs : List ℕ) (some : 0 < length xs) (x : DrawnLeg) (is : x ≡ leg-at ls (getD xs 0 0)) where
@@ -57,10 +57,10 @@ module _ (ls : List DrawnLeg) (n i : ℕ) (xs : List ℕ) (some : 0 < length xs)
 pub has-skip : (n x : ℕ) (xs : List ℕ) → (x ≡ n → ⊥) → has n (x ∷ xs) ≡ has n xs
 has-skip n x xs ne = ap (λ b. b || has n xs) (ne-eqb x n ne)
 
-nodes-more : (ls : List DrawnLeg) (met : List ℕ) (i k : ℕ) (ks : List ℕ) → has (leg-at ls k .to) met ≡ false → nodes-from ls met i (k ∷ ks) ≡ nodes-from ls (met ++ (leg-at ls k .to ∷ [])) (i + 1) ks
+pub nodes-more : (ls : List DrawnLeg) (met : List ℕ) (i k : ℕ) (ks : List ℕ) → has (leg-at ls k .to) met ≡ false → nodes-from ls met i (k ∷ ks) ≡ nodes-from ls (met ++ (leg-at ls k .to ∷ [])) (i + 1) ks
 nodes-more ls met i k ks h = rw (h, nodes-from)
 
-nodes-end : (ls : List DrawnLeg) (met : List ℕ) (i k : ℕ) (ks : List ℕ) → has (leg-at ls k .to) met ≡ true → nodes-from ls met i (k ∷ ks) ≡ No i
+pub nodes-end : (ls : List DrawnLeg) (met : List ℕ) (i k : ℕ) (ks : List ℕ) → has (leg-at ls k .to) met ≡ true → nodes-from ls met i (k ∷ ks) ≡ No i
 nodes-end ls met i k ks h = rw (h, nodes-from)
 
 module _ (ls : List DrawnLeg) (n : ℕ) (ks : List ℕ) (i : ℕ) (below : i < length ks) (x : DrawnLeg) (is : x ≡ leg-at ls (getD ks i 0)) where

@@ -3,3 +3,4 @@ pub mod Chaining
 pub mod Tracing
 pub mod Keeping
 pub mod Passing
+pub mod Placing

@@ -52,7 +52,7 @@ has-push n x (m ∷ ms) h ne =
     let p = or-parts (eqb m n) (has n ms) h in
     or-from (eqb m n) _ (p .0) (has-push n x ms (p .1) ne)
 
-no-twice-push : (ms : List ℕ) (x : ℕ) → no-twice ms ≡ true → has x ms ≡ false → no-twice (ms ++ (x ∷ [])) ≡ true
+pub no-twice-push : (ms : List ℕ) (x : ℕ) → no-twice ms ≡ true → has x ms ≡ false → no-twice (ms ++ (x ∷ [])) ≡ true
 no-twice-push [] x h k = refl
 no-twice-push (m ∷ ms) x h k =
     let p = and-parts (not (has m ms)) _ h in

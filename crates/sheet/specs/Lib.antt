@@ -3,3 +3,4 @@ pub mod Views
 pub mod Asks
 pub mod Checks
 pub mod Sheets
+pub mod AskLaws

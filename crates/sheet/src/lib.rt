@@ -3,6 +3,7 @@ mod ask;
 mod chain;
 mod check;
 mod enter;
+pub mod laws;
 pub mod leg;
 pub mod node;
 pub mod path;
