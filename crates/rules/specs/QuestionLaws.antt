@@ -11,6 +11,7 @@ use Rattle.rules.specs.declared.fault.Fault.{Fault}
 use Rattle.rules.specs.declared.fault.Answer.{Answer}
 use Rattle.rules.specs.declared.fault.Answer.the-variants.{Yes, No}
 
+-- an answer that is yes, and questions that are all answered so
 abbrev pub is-yes : Answer → Bool
 is-yes Yes = true
 is-yes (No p) = false
@@ -34,7 +35,8 @@ pub record FailsFirst {A : Type 0} (f : A → Bool) (xs : List A) (i : ℕ) : Ty
   pub fine-before : all-of f (take i xs) ≡ true
   pub fails : (d : A) → f (getD xs i d) ≡ false
 
--- for questions of any kind Q, and for items of any kind A that are counted from k
+-- For questions of any kind Q there is no first no exactly where all are answered yes, and a first no is as told above.
+-- For items of any kind A, counted from k, the answer is yes exactly where each passes, and a no says the place of the first that fails.
 pub record Questions-stand (Q A : Type 0) : Type 0 where
   pub none : (qs : List (Asked Q)) → first-no qs ≡ None → all-yes qs ≡ true
   pub none-from : (qs : List (Asked Q)) → all-yes qs ≡ true → first-no qs ≡ None

@@ -1,15 +1,15 @@
 -- The steps of the questions on a path's legs.
 use mathlib.Core.Path.{_≡_, sym, _∙_, ap}
 use mathlib.Core.List.{List, [], _∷_, _++_}
-use mathlib.Core.Bool.{Bool, true, false, _&&_, _||_}
+use mathlib.Core.Bool.{Bool, true, false, _||_}
 use Prim.Native.Nat.{ℕ, _+_, _≤_, _<_}
 use native.Mathlib.Omega.{arith}
-use lib.Dec.{eqb, ltb, leb}
+use lib.Dec.{eqb, ltb}
 use lib.ListN.{length, getD, take, drop}
 use Rattle.std.proofs.shelf.Tests.{eq-eqb, ne-eqb}
 use Rattle.std.proofs.shelf.Ways.{tells}
 use Rattle.std.proofs.shelf.Lists.{getD-map, at-drop-more, at-drop-all, map-more}
-use Rattle.rules.specs.Network.{DrawnLeg, leg-at, ends-of}
+use Rattle.rules.specs.Network.{DrawnLeg, leg-at, ends-of, one-to-eight}
 use Rattle.rules.specs.Lists.{has}
 use Rattle.rules.specs.Questions.{each-from}
 use Rattle.rules.specs.declared.fault.Answer.the-variants.{Yes, No}
@@ -33,8 +33,11 @@ module _ (f : ℕ → Bool) (ks : List ℕ) (i : ℕ) where
   pub each-done : length ks ≤ i → each-from (i + 1) f (drop i ks) ≡ Yes
   each-done l = at-drop-all (each-from (i + 1) f) ks i l
 
+pub legs-counted : (n : ℕ) (ks : List ℕ) → one-to-eight ks ≡ true → legs-answer n ks ≡ each-from 1 (λ k. ltb k n) ks
+legs-counted n ks t = rw (t, legs-answer)
+
 pub counts : (n : ℕ) (ks : List ℕ) → 1 ≤ length ks → length ks ≤ 8 → legs-answer n ks ≡ each-from 1 (λ k. ltb k n) ks
-counts n ks a b = let t : (leb 1 (length ks) && leb (length ks) 8) ≡ true = grind (arith, tells) in rw (t, legs-answer)
+counts n ks a b = legs-counted n ks (grind (arith, tells))
 
 pub chain-more : (ls : List DrawnLeg) (n i k : ℕ) (ks : List ℕ) → eqb (leg-at ls k .from) n ≡ true → chain-from ls n i (k ∷ ks) ≡ chain-from ls (leg-at ls k .to) (i + 1) ks
 chain-more ls n i k ks h = rw (h, chain-from)

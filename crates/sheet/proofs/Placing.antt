@@ -10,14 +10,13 @@ use lib.ListN.{length, take}
 use Rattle.std.proofs.shelf.Tests.{and-parts, and-from, and-cases, and-left, and-right, or-cases, or-left, or-right, not-from-true, eqb-true, eq-eqb, cases-bool, both-ways, true≢false, false≢true}
 use Rattle.rules.specs.Lists.{has}
 use Rattle.rules.specs.Network.{DrawnLeg, leg-at, start-of, ends-of, chained-from, chained, no-twice, one-to-eight, all-entered}
-use Rattle.rules.specs.Questions.{each-from}
 use Rattle.rules.specs.QuestionLaws.{FailsFirst}
 use Rattle.rules.specs.declared.fault.Answer.{Answer}
 use Rattle.rules.specs.declared.fault.Answer.the-variants.{Yes, No}
 use Rattle.rules.proofs.Asking.{never, stops-or-goes, each-no, all-each}
 use Rattle.sheet.specs.Asks.{legs-answer, chain-from, chain-answer, nodes-from, nodes-answer}
 use Rattle.sheet.specs.AskLaws.{FailsAt, meets-once, Places-stand}
-use Rattle.sheet.proofs.Chaining.{chain-more, chain-ends, nodes-more, nodes-end}
+use Rattle.sheet.proofs.Chaining.{legs-counted, chain-more, chain-ends, nodes-more, nodes-end}
 use Rattle.sheet.proofs.Passing.{legs-pass, chain-pass, nodes-pass, no-twice-push}
 
 -- the first j legs pass the test, and with the next they fail
@@ -56,15 +55,16 @@ module _ (ls : List DrawnLeg) (test : ℕ → List ℕ → Bool) (none : (m : �
   at-start (k ∷ ks) zero n = record { inside = n .inside; before = none (leg-at ls k .from); here = n .here }
   at-start (k ∷ ks) (suc j) n = record { inside = n .inside; before = n .before; here = n .here }
 
-legs-fine : (n : ℕ) (ks : List ℕ) → one-to-eight ks ≡ true → all-entered n ks ≡ true → legs-answer n ks ≡ Yes
-legs-fine n ks o e = ap (λ b. elim b [ true ↦ each-from 1 (λ k. ltb k n) ks | false ↦ No 0 ]) o ∙ all-each (λ k. ltb k n) 1 ks e
+-- the legs, each of them entered
+module _ (n : ℕ) (ks : List ℕ) where
+  legs-fine : one-to-eight ks ≡ true → all-entered n ks ≡ true → legs-answer n ks ≡ Yes
+  legs-fine o e = legs-counted n ks o ∙ all-each (λ k. ltb k n) 1 ks e
 
-legs-count : (n : ℕ) (ks : List ℕ) → one-to-eight ks ≡ false → legs-answer n ks ≡ No 0
-legs-count n ks o = ap (λ b. elim b [ true ↦ each-from 1 (λ k. ltb k n) ks | false ↦ No 0 ]) o
+  legs-count : one-to-eight ks ≡ false → legs-answer n ks ≡ No 0
+  legs-count o = rw (o, legs-answer)
 
-legs-no : (n : ℕ) (ks : List ℕ) (p : ℕ) → one-to-eight ks ≡ true → legs-answer n ks ≡ No p → (1 ≤ p) × FailsFirst (λ k. ltb k n) ks (p - 1)
-legs-no n ks p o h =
-    each-no (λ k. ltb k n) 1 ks p (sym (ap (λ b. elim b [ true ↦ each-from 1 (λ k. ltb k n) ks | false ↦ No 0 ]) o) ∙ h)
+  legs-no : (p : ℕ) → one-to-eight ks ≡ true → legs-answer n ks ≡ No p → (1 ≤ p) × FailsFirst (λ k. ltb k n) ks (p - 1)
+  legs-no p o h = each-no (λ k. ltb k n) 1 ks p (sym (legs-counted n ks o) ∙ h)
 
 -- the chain, after a leg that ended at n, from place i on
 module _ (ls : List DrawnLeg) where
@@ -78,11 +78,11 @@ module _ (ls : List DrawnLeg) where
   chain-finds n i [] p h = absurd (never (sym h))
   chain-finds n i (k ∷ ks) p h =
       elim (stops-or-goes (eqb (leg-at ls k .from) n) i (chain-from ls (leg-at ls k .to) (i + 1) ks) p h) [
-        inl s ↦ (0, (omega (arith, s .1), record { inside = omega arith; before = refl; here = and-left _ _ (s .0) }))
-      | inr g ↦
-        let r = chain-finds (leg-at ls k .to) (i + 1) ks p (g .1) in
-        let next = r .1 .1 in
-        (suc (r .0), (omega (arith, r .1 .0), record { inside = omega (arith, next .inside); before = and-from _ _ (g .0) (next .before); here = and-right _ _ (next .here) }))
+        | inl s ↦ (0, (omega (arith, s .1), record { inside = omega arith; before = refl; here = and-left _ _ (s .0) }))
+        | inr g ↦
+            let r = chain-finds (leg-at ls k .to) (i + 1) ks p (g .1) in
+            let next = r .1 .1 in
+            (suc (r .0), (omega (arith, r .1 .0), record { inside = omega (arith, next .inside); before = and-from _ _ (g .0) (next .before); here = and-right _ _ (next .here) }))
       ]
 
   chain-points : (n i : ℕ) (ks : List ℕ) (j : ℕ) → Next (chained-from ls n) ks j → chain-from ls n i ks ≡ No (i + j)
@@ -90,15 +90,15 @@ module _ (ls : List DrawnLeg) where
   chain-points n i (k ∷ ks) zero x =
       let e : i ≡ i + 0 = omega arith in
       elim (and-cases (eqb (leg-at ls k .from) n) true (x .here)) [
-        inl h ↦ chain-ends ls n i k ks h ∙ ap No e
-      | inr h ↦ absurd (true≢false h)
+        | inl h ↦ chain-ends ls n i k ks h ∙ ap No e
+        | inr h ↦ absurd (true≢false h)
       ]
   chain-points n i (k ∷ ks) (suc j) x =
       let e : i + 1 + j ≡ i + suc j = omega arith in
       let b = and-parts (eqb (leg-at ls k .from) n) _ (x .before) in
       elim (and-cases (eqb (leg-at ls k .from) n) _ (x .here)) [
-        inl h ↦ absurd (both-ways _ h (b .0))
-      | inr h ↦ chain-more ls n i k ks (b .0) ∙ chain-points (leg-at ls k .to) (i + 1) ks j (record { inside = omega (arith, x .inside); before = b .1; here = h }) ∙ ap No e
+        | inl h ↦ absurd (both-ways _ h (b .0))
+        | inr h ↦ chain-more ls n i k ks (b .0) ∙ chain-points (leg-at ls k .to) (i + 1) ks j (record { inside = omega (arith, x .inside); before = b .1; here = h }) ∙ ap No e
       ]
 
   chain-no : (ks : List ℕ) (p : ℕ) → chain-answer ls ks ≡ No p → FailsAt (chained ls) ks p
@@ -120,8 +120,8 @@ twice : (x : ℕ) (ms ys : List ℕ) → has x ms ≡ true → no-twice (ms ++ (
 twice x [] ys h = absurd (false≢true h)
 twice x (m ∷ ms) ys h =
     elim (or-cases (eqb m x) (has x ms) h) [
-      inl e ↦ and-left _ _ (not-from-true _ (ap (λ n. has n (ms ++ (x ∷ ys))) (eqb-true m x e) ∙ has-in x ms ys))
-    | inr r ↦ and-right (not (has m (ms ++ (x ∷ ys)))) _ (twice x ms ys r)
+      | inl e ↦ and-left _ _ (not-from-true _ (ap (λ n. has n (ms ++ (x ∷ ys))) (eqb-true m x e) ∙ has-in x ms ys))
+      | inr r ↦ and-right (not (has m (ms ++ (x ∷ ys)))) _ (twice x ms ys r)
     ]
 
 -- a test whose yes ends the question
@@ -143,8 +143,8 @@ module _ (ls : List DrawnLeg) where
   nodes-fine met i (k ∷ ks) h =
       let to = leg-at ls k .to in
       elim (cases-bool (has to met)) [
-        inl t ↦ absurd (both-ways _ (twice to met (ends-of ls ks) t) h)
-      | inr f ↦ nodes-more ls met i k ks f ∙ nodes-fine (met ++ (to ∷ [])) (i + 1) ks (sym (met-more met ks to) ∙ h)
+        | inl t ↦ absurd (both-ways _ (twice to met (ends-of ls ks) t) h)
+        | inr f ↦ nodes-more ls met i k ks f ∙ nodes-fine (met ++ (to ∷ [])) (i + 1) ks (sym (met-more met ks to) ∙ h)
       ]
 
   nodes-finds : (met : List ℕ) (i : ℕ) (ks : List ℕ) (p : ℕ) → no-twice met ≡ true → nodes-from ls met i ks ≡ No p → (j : ℕ) × ((p ≡ i + j) × Next (once-after met) ks j)
@@ -152,15 +152,20 @@ module _ (ls : List DrawnLeg) where
   nodes-finds met i (k ∷ ks) p t h =
       let to = leg-at ls k .to in
       elim (ends-or-goes (has to met) i (nodes-from ls (met ++ (to ∷ [])) (i + 1) ks) p h) [
-        inl s ↦ (0, (omega (arith, s .1), record { inside = omega arith; before = ap no-twice (append-nil met) ∙ t; here = twice to met [] (s .0) }))
-      | inr g ↦
-        let r = nodes-finds (met ++ (to ∷ [])) (i + 1) ks p (no-twice-push met to t (g .0)) (g .1) in
-        let next = r .1 .1 in
-        (suc (r .0), (omega (arith, r .1 .0), record {
-          inside = omega (arith, next .inside);
-          before = met-more met (take (r .0) ks) to ∙ next .before;
-          here = met-more met (take (suc (r .0)) ks) to ∙ next .here;
-        }))
+        | inl s ↦ (0, (omega (arith, s .1), record { inside = omega arith; before = ap no-twice (append-nil met) ∙ t; here = twice to met [] (s .0) }))
+        | inr g ↦
+            let r = nodes-finds (met ++ (to ∷ [])) (i + 1) ks p (no-twice-push met to t (g .0)) (g .1) in
+            let next = r .1 .1 in (
+              suc (r .0),
+              (
+                omega (arith, r .1 .0),
+                record {
+                  inside = omega (arith, next .inside);
+                  before = met-more met (take (r .0) ks) to ∙ next .before;
+                  here = met-more met (take (suc (r .0)) ks) to ∙ next .here;
+                },
+              ),
+            )
       ]
 
   nodes-points : (met : List ℕ) (i : ℕ) (ks : List ℕ) (j : ℕ) → Next (once-after met) ks j → nodes-from ls met i ks ≡ No (i + j)
@@ -169,22 +174,22 @@ module _ (ls : List DrawnLeg) where
       let to = leg-at ls k .to in
       let e : i ≡ i + 0 = omega arith in
       elim (cases-bool (has to met)) [
-        inl t ↦ nodes-end ls met i k ks t ∙ ap No e
-      | inr f ↦ absurd (both-ways _ (x .here) (no-twice-push met to (ap no-twice (sym (append-nil met)) ∙ x .before) f))
+        | inl t ↦ nodes-end ls met i k ks t ∙ ap No e
+        | inr f ↦ absurd (both-ways _ (x .here) (no-twice-push met to (ap no-twice (sym (append-nil met)) ∙ x .before) f))
       ]
   nodes-points met i (k ∷ ks) (suc j) x =
       let to = leg-at ls k .to in
       let e : i + 1 + j ≡ i + suc j = omega arith in
       elim (cases-bool (has to met)) [
-        inl t ↦ absurd (both-ways _ (twice to met (ends-of ls (take j ks)) t) (x .before))
-      | inr f ↦
-        nodes-more ls met i k ks f
-        ∙ nodes-points (met ++ (to ∷ [])) (i + 1) ks j (record {
-          inside = omega (arith, x .inside);
-          before = sym (met-more met (take j ks) to) ∙ x .before;
-          here = sym (met-more met (take (suc j) ks) to) ∙ x .here;
-        })
-        ∙ ap No e
+        | inl t ↦ absurd (both-ways _ (twice to met (ends-of ls (take j ks)) t) (x .before))
+        | inr f ↦
+            nodes-more ls met i k ks f
+            ∙ nodes-points (met ++ (to ∷ [])) (i + 1) ks j (record {
+              inside = omega (arith, x .inside);
+              before = sym (met-more met (take j ks) to) ∙ x .before;
+              here = sym (met-more met (take (suc j) ks) to) ∙ x .here;
+            })
+            ∙ ap No e
       ]
 
   abbrev once-from : ℕ → List ℕ → Bool
