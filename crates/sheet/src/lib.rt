@@ -109,6 +109,7 @@ mod tests {
         let legs = [
             ([0, 1, 200_000, 1_000_000, 100_000], (0, 0)),
             ([0, 1, 200_001, 0, 0], (9, 0)),
+            ([0, 0, 200_001, 0, 0], (8, 0)),
             ([0, 1, 0, 1_000_001, 0], (9, 0)),
             ([0, 1, 0, 0, 100_001], (9, 0)),
             ([2, 1, 0, 0, 0], (8, 0)),
@@ -132,9 +133,10 @@ mod tests {
         for i in 0..128 {
             check_eq(said(sheet.enter_path(&[0])), (0, i))?;
         }
-        check_eq(said(sheet.enter_node(0, 0, 0, 0)), (5, 0))?;
-        check_eq(said(sheet.enter_leg(0, 1, 0, 0, 0)), (7, 0))?;
-        check_eq(said(sheet.enter_path(&[0])), (10, 0))?;
+        // Where there is no room, the figures do not matter.
+        check_eq(said(sheet.enter_node(100, 2, 0, 0)), (5, 0))?;
+        check_eq(said(sheet.enter_leg(0, 0, 200_001, 0, 0)), (7, 0))?;
+        check_eq(said(sheet.enter_path(&[])), (10, 0))?;
         check_eq(counts(&sheet), (40, 64, 128)).note("a refusal leaves the counts")
     }
 
@@ -159,6 +161,7 @@ mod tests {
         let paths: [(&[u32], (u32, usize)); 12] = [
             (&[], (11, 0)),
             (&[0, 1, 2, 3, 4, 5, 6, 7, 8], (11, 0)),
+            (&[99, 99, 99, 99, 99, 99, 99, 99, 99], (11, 0)),
             (&[0, 1, 13], (11, 3)),
             (&[0, 2], (12, 2)),
             (&[0, 1, 11, 3], (12, 4)),
