@@ -15,7 +15,7 @@ use Rattle.rules.specs.declared.fault.Fault.{Fault}
 use Rattle.sheet.specs.declared.question.SheetQuestion.{SheetQuestion}
 use Rattle.text.specs.declared.question.TextQuestion.the-variants.{KnownWord}
 use Rattle.text.specs.declared.word.Word.{Word}
-use Rattle.reader.specs.Case.{moves, figure-questions, text-first, sheet-questions, acting-questions, acted, entered, of-sheet, is-past, Step, ends, leads, unless, said-step}
+use Rattle.reader.specs.Case.{moves, figure-questions, text-first, sheet-questions, acting-questions, acted, entered, of-sheet, is-past, Step, ends, unless, said-step}
 use Rattle.reader.specs.Order.{next-stage}
 use Rattle.reader.specs.declared.stage.Stage.{Stage}
 use Rattle.reader.specs.declared.stage.Stage.the-variants.{Nodes, Legs, Paths, Past}

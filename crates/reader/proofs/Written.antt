@@ -27,7 +27,7 @@ use Rattle.text.proofs.Joins.{lines-back, words-back, lacks-parts, lacks-more}
 use Rattle.text.proofs.Reading.{figure-some}
 use Rattle.text.proofs.Written.{decimal-is-figure, figure-back, decimal-whole, word-back, spelled-whole}
 use Rattle.reader.specs.Case.{first-word, figure-words, figures-of, said-step, read-lines, line-step, at-line, Step, ends, fails, leads}
-use Rattle.reader.specs.Format.{CaseLine, takes, take-lines, FirstFault, short-figures, written-line, written, said-by, line-said, Reading-stands}
+use Rattle.reader.specs.Format.{CaseLine, takes, take-lines, FirstFault, short-figures, written-line, said-by, line-said, Reading-stands}
 use Rattle.reader.specs.declared.fault.CaseFault.{CaseFault}
 use Rattle.reader.specs.declared.fault.Question.{Question}
 use Rattle.reader.specs.declared.stage.Stage.{Stage}
