@@ -119,8 +119,8 @@ module _ (m : Meaning) (over : List (List ℕ)) (rs : List Watts) (law : Lawful 
   -- an added gauge is as light as the ground
   added_light : (p i : ℕ) → i < length over → (weight_over (get_or over i []) (weights_of m p)).0 ≤ 8000000
   added_light p i real =
-      let g = and_parts (rising_from 0 (get_or over i [])) _ (all_of_at (rising_ground m.ground) over i [] may.grounded real) in
-      omega (arith, rising_light m.ground (get_or over i []) (weights_of m p) g.0 g.1, law.light p)
+      let g = and_parts (rising_from 0 (get_or over i [])) _ (all_of_at (rising_ground m.grounds) over i [] may.grounded real) in
+      omega (arith, rising_light m.grounds (get_or over i []) (weights_of m p) g.0 g.1, law.light p)
 
   past_added : (p k : ℕ) → gauges_of m + length over ≤ k → weight_of all p k ≡ w0
   past_added p k past =
@@ -164,17 +164,17 @@ module _ (m : Meaning) (over : List (List ℕ)) (rs : List Watts) (law : Lawful 
             ]
       ]
 
-  light : (p : ℕ) → sum_of (take m.ground (weights_of all p)) ≤ 8000000
+  light : (p : ℕ) → sum_of (take m.grounds (weights_of all p)) ≤ 8000000
   light p =
       elim (cases_lt p (paths_of m)) [
         | inl real ↦
-            let low : m.ground ≤ length (weights_of m p) = omega (arith, law.even p real, law.ground_first) in
-            let e : take m.ground (weights_of all p) ≡ take m.ground (weights_of m p) =
-            ap (take m.ground) (known_weights m over rs p real) ∙ take-append-le m.ground (weights_of m p) (added_weights over (weights_of m p)) low in
+            let low : m.grounds ≤ length (weights_of m p) = omega (arith, law.even p real, law.ground_first) in
+            let e : take m.grounds (weights_of all p) ≡ take m.grounds (weights_of m p) =
+            ap (take m.grounds) (known_weights m over rs p real) ∙ take-append-le m.grounds (weights_of m p) (added_weights over (weights_of m p)) low in
             omega (arith, ap sum_of e, law.light p)
         | inr past ↦
             let e : weights_of all p ≡ weights_of m p = unknown_weights m over rs p past ∙ sym (no_weights m p past) in
-            omega (arith, ap (λ ws. sum_of (take m.ground ws)) e, law.light p)
+            omega (arith, ap (λ ws. sum_of (take m.grounds ws)) e, law.light p)
       ]
 
   even : (p : ℕ) → p < paths_of all → length (weights_of all p) ≡ gauges_of all
@@ -218,22 +218,22 @@ module _ (m : Meaning) (over : List (List ℕ)) (rs : List Watts) (law : Lawful 
 
   pub booked_above : booked (extended m over rs) p q ≡ extended (booked m p q) over (lowered q rs (added_weights over (weights_of m p)))
   booked_above =
-      ap (λ rooms. record { ground = m.ground; rooms = rooms; weights = (extended m over rs).weights })
+      ap (λ rooms. record { grounds = m.grounds; rooms = rooms; weights = (extended m over rs).weights })
       (ap (lowered q (m.rooms ++ rs)) (known_weights m over rs p real)
       ∙ lowered-append q m.rooms (weights_of m p) rs (added_weights over (weights_of m p)) (law.even p real))
 
 -- nothing added
 pub none_added : (m : Meaning) → extended m [] [] ≡ m
 none_added m =
-    ap (λ rooms. record { ground = m.ground; rooms = rooms; weights = (extended m [] []).weights }) (append-nil m.rooms)
-    ∙ ap (λ weights. record { ground = m.ground; rooms = m.rooms; weights = weights }) (same m.weights)
+    ap (λ rooms. record { grounds = m.grounds; rooms = rooms; weights = (extended m [] []).weights }) (append-nil m.rooms)
+    ∙ ap (λ weights. record { grounds = m.grounds; rooms = m.rooms; weights = weights }) (same m.weights)
   where
     same : (rows : List (List Watts)) → map (λ ws. ws ++ []) rows ≡ rows
     same [] = refl
     same (ws ∷ rows) = ap (λ x. x ∷ map (λ vs. vs ++ []) rows) (append-nil ws) ∙ ap (λ x. ws ∷ x) (same rows)
 
 -- one gauge more above those that were added
-module _ (m : Meaning) (over : List (List ℕ)) (rs : List Watts) (law : Lawful m) (ks : List ℕ) (room : Watts) (grounded : all_of (λ k. ltb k m.ground) ks ≡ true) where
+module _ (m : Meaning) (over : List (List ℕ)) (rs : List Watts) (law : Lawful m) (ks : List ℕ) (room : Watts) (grounded : all_of (λ k. ltb k m.grounds) ks ≡ true) where
   abbrev before : Meaning
   before = extended m over rs
 
@@ -245,9 +245,9 @@ module _ (m : Meaning) (over : List (List ℕ)) (rs : List Watts) (law : Lawful 
       let there : p < paths_of m = omega (arith, as_many_paths m (over ++ (ks ∷ [])) (rs ++ (room ∷ []))) in
       let ws : List Watts = weights_of m p in
       let vs : List Watts = added_weights over (weights_of m p) in
-      let low : m.ground ≤ length (weights_of m p) = omega (arith, law.even p there, law.ground_first) in
+      let low : m.grounds ≤ length (weights_of m p) = omega (arith, law.even p there, law.ground_first) in
       let same : weight_over ks (weights_of m p) ≡ weight_over ks (weights_of m p ++ added_weights over (weights_of m p)) =
-      weight_over_same m.ground ks (weights_of m p) (weights_of m p ++ added_weights over (weights_of m p))
+      weight_over_same m.grounds ks (weights_of m p) (weights_of m p ++ added_weights over (weights_of m p))
       (λ k less. sym (get_or_append_left (weights_of m p) (added_weights over (weights_of m p)) w0 k (omega arith))) grounded in
       known_weights m (over ++ (ks ∷ [])) (rs ++ (room ∷ [])) p there
       ∙ ap (λ us. weights_of m p ++ us) (map-append (λ is. weight_over is (weights_of m p)) over (ks ∷ []))
@@ -261,5 +261,5 @@ module _ (m : Meaning) (over : List (List ℕ)) (rs : List Watts) (law : Lawful 
       let long : paths_of after ≡ paths_of (extended before (ks ∷ []) (room ∷ [])) =
       omega (arith, as_many_paths m (over ++ (ks ∷ [])) (rs ++ (room ∷ [])), as_many_paths before (ks ∷ []) (room ∷ []), as_many_paths m over rs) in
       let weights : after.weights ≡ (extended before (ks ∷ []) (room ∷ [])).weights = ext_get_or [] after.weights (extended before (ks ∷ []) (room ∷ [])).weights long same_weights in
-      ap (λ x. record { ground = m.ground; rooms = x; weights = after.weights }) (sym (append_assoc m.rooms rs (room ∷ [])))
-      ∙ ap (λ x. record { ground = m.ground; rooms = (m.rooms ++ rs) ++ (room ∷ []); weights = x }) weights
+      ap (λ x. record { grounds = m.grounds; rooms = x; weights = after.weights }) (sym (append_assoc m.rooms rs (room ∷ [])))
+      ∙ ap (λ x. record { grounds = m.grounds; rooms = (m.rooms ++ rs) ++ (room ∷ []); weights = x }) weights

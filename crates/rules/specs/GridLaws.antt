@@ -27,7 +27,7 @@ pub record MayAdd (m : Meaning) (over : List (List ℕ)) (rs : List Watts) : Typ
   pub as_many : length over ≡ length rs
   pub few : gauges_of m + length rs ≤ 256
   pub roomy : all_of (λ w. nat_le w.0 100000000000) rs ≡ true
-  pub grounded : all_of (rising_ground m.ground) over ≡ true
+  pub grounded : all_of (rising_ground m.grounds) over ≡ true
 
 -- gauges added above a lawful grid: those below are passed on, and a path weighs on an added one what it weighs on its gauges together
 pub record Extension (m : Meaning) (over : List (List ℕ)) (rs : List Watts) : Type 0 where

@@ -9,7 +9,7 @@ as_watts n = record { 0 = n }
 
 -- how many of the gauges are ground, which are the first; the room of each gauge; and for each path its weight on each gauge, in W for each MW sent
 pub record Meaning : Type 0 where
-  pub ground : ℕ
+  pub grounds : ℕ
   pub rooms : List Watts
   pub weights : List (List Watts)
 
@@ -36,10 +36,10 @@ sum_of ws = sum_by (λ w. w.0) ws
 -- many weights of a path as there are gauges
 pub record Lawful (m : Meaning) : Type 0 where
   pub few : gauges_of m ≤ 256
-  pub ground_first : m.ground ≤ gauges_of m
+  pub ground_first : m.grounds ≤ gauges_of m
   pub roomy : (k : ℕ) → (room_of m k).0 ≤ 100000000000
   pub narrow : (p k : ℕ) → (weight_of m p k).0 ≤ 8000000
-  pub light : (p : ℕ) → sum_of (take m.ground (weights_of m p)) ≤ 8000000
+  pub light : (p : ℕ) → sum_of (take m.grounds (weights_of m p)) ≤ 8000000
   pub even : (p : ℕ) → p < paths_of m → length (weights_of m p) ≡ gauges_of m
 
 -- each room is enough for q MW that weigh so much on it
@@ -62,7 +62,7 @@ carries_one m p = known m p && has_room m p (record { 0 = 1 })
 
 -- q MW booked on a path: counts and weights stay
 abbrev pub booked : Meaning → ℕ → Mw → Meaning
-booked m p q = record { ground = m.ground; rooms = lowered q m.rooms (weights_of m p); weights = m.weights }
+booked m p q = record { grounds = m.grounds; rooms = lowered q m.rooms (weights_of m p); weights = m.weights }
 
 -- what a path of these weights weighs on the gauges ks together
 abbrev pub weight_over : List ℕ → List Watts → Watts
@@ -75,12 +75,12 @@ rising_from n (k ∷ ks) = nat_le n k && rising_from (k + 1) ks
 
 -- strictly rising ground gauges, of which there are so many
 abbrev pub rising_ground : ℕ → List ℕ → Bool
-rising_ground ground ks = rising_from 0 ks && all_of (λ k. ltb k ground) ks
+rising_ground grounds ks = rising_from 0 ks && all_of (λ k. ltb k grounds) ks
 
 -- gauges added above the others, with their rooms, each over some of the gauges: a path weighs on it the sum of its weights on those
 abbrev pub extended : Meaning → List (List ℕ) → List Watts → Meaning
 extended m over rs = record {
-  ground = m.ground;
+  grounds = m.grounds;
   rooms = m.rooms ++ rs;
   weights = map (λ ws. ws ++ map (λ ks. weight_over ks ws) over) m.weights;
 }

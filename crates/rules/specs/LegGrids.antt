@@ -23,7 +23,7 @@ leg_weights ls ks = map (λ j. as_watts (enters_leg ks (entering one_mw (stretch
 -- one ground gauge for each leg, with the leg's limit as its first room
 abbrev pub leg_grid : Drawing → Meaning
 leg_grid d = record {
-  ground = length d.legs;
+  grounds = length d.legs;
   rooms = map (λ l. limit_room l.limit) d.legs;
   weights = map (leg_weights d.legs) d.paths;
 }

@@ -1,4 +1,6 @@
 // The market's rules as definitions, and the values that every layer shares.
+#![tactic(auto)]
+
 pub mod charge;
 pub mod claim;
 pub mod fault;

@@ -12,11 +12,11 @@ product_is c =
 narrow : (c : goal.Start) → Narrow (c.args.bid *ℤ pos (1000 * c.args.landed))
 narrow c = product_narrow c.args.bid (1000 * c.args.landed) c.requires.low c.requires.high (omega (arith, c.requires.lands))
 
-pub overflow-mul-result : goal.overflow-mul-result
-overflow-mul-result c = let n = narrow c in rw (product_is c) (omega (arith, ints))
+pub overflow_mul-result : goal.overflow_mul-result
+overflow_mul-result c = let n = narrow c in rw (product_is c) (omega (arith, ints))
 
-pub overflow-sub-result : goal.overflow-sub-result
-overflow-sub-result c =
+pub overflow_sub-result : goal.overflow_sub-result
+overflow_sub-result c =
     let n = narrow c in
     let f : SFits w64 (c.args.bid *ℤ pos (1000 * c.args.landed)) = omega (arith, ints) in
     rw (product_is c, to_z-of_z w64 _ f, to_z_pos w64 c.args.charge (omega (arith, c.requires.charges))) (omega (arith, ints, c.requires.charges))
