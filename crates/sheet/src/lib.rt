@@ -1,4 +1,6 @@
 // Nodes, legs and paths: what may be entered, and what a MW sent along a path becomes.
+#![tactic(auto)]
+
 mod ask;
 mod chain;
 mod check;

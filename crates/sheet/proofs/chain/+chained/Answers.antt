@@ -5,11 +5,11 @@ use Rattle.sheet.proofs.Firsts.{first_entered, rest_entered, rest_length, rest_s
 use Rattle.sheet.proofs.Chaining.{chain_on, chain_stops}
 use Rattle.sheet.proofs.chain.+chained.Goals as goal
 
-pub returns-in-default : goal.returns-in-default
-returns-in-default t c = sym (at_none (chain_from (legs_of c.args.all.now) c.args.node c.args.place) c.args.legs.now (search rules))
+pub returns-in_default : goal.returns-in_default
+returns-in_default t c = sym (at_none (chain_from (legs_of c.args.all.now) c.args.node c.args.place) c.args.legs.now (search rules))
 
-pub leg-at-leg-requires : goal.leg-at-leg-requires
-leg-at-leg-requires t c = first_entered _ c.args.legs.now c.requires.entered (search rules)
+pub leg_at-leg-requires : goal.leg_at-leg-requires
+leg_at-leg-requires t c = first_entered _ c.args.legs.now c.requires.entered (search rules)
 
 pub chained-requires : goal.chained-requires
 chained-requires t c =
@@ -23,8 +23,8 @@ chained-requires t c =
 
 pub returns-then-leg-node : goal.returns-then-leg-node
 returns-then-leg-node t c =
-    sym (chain_stops (legs_of c.args.all.now) c.args.node c.args.place c.args.legs.now (search rules) (leg_of c.leg-at-leg.result) c.leg-at-leg.ensures c.if-leg-node.true)
+    sym (chain_stops (legs_of c.args.all.now) c.args.node c.args.place c.args.legs.now (search rules) (leg_of c.leg_at-leg.result) c.leg_at-leg.ensures c.if-leg-node.true)
 
 pub returns : goal.returns
 returns t c =
-    c.chained.ensures ∙ sym (chain_on (legs_of c.args.all.now) c.args.node c.args.place c.args.legs.now (search rules) (leg_of c.leg-at-leg.result) c.leg-at-leg.ensures c.if-leg-node.false)
+    c.chained.ensures ∙ sym (chain_on (legs_of c.args.all.now) c.args.node c.args.place c.args.legs.now (search rules) (leg_of c.leg_at-leg.result) c.leg_at-leg.ensures c.if-leg-node.false)

@@ -1,5 +1,5 @@
 use Rattle.std.proofs.Common.{length}
 use Rattle.sheet.proofs.chain.+ends_at.Given as goal
 
-abbrev pub decreases-ends-at : goal.decreases-ends-at
-decreases-ends-at l = length l.legs.now
+abbrev pub decreases-ends_at : goal.decreases-ends_at
+decreases-ends_at l = length l.legs.now

@@ -7,8 +7,8 @@ use Rattle.sheet.proofs.Firsts.{entered_at, entered_take}
 use Rattle.sheet.proofs.Chaining.{nodes_next, nodes_stop, nodes_done}
 use Rattle.sheet.proofs.chain.nodes_once.Goals as goal
 
-pub leg-at-node-requires : goal.leg-at-node-requires
-leg-at-node-requires c = entered_at _ c.args.legs.now c.loop-i.i c.requires.entered c.loop-i-test.true
+pub leg_at-node-requires : goal.leg_at-node-requires
+leg_at-node-requires c = entered_at _ c.args.legs.now c.loop-i.i c.requires.entered c.loop-i-test.true
 
 pub met-requires : goal.met-requires
 met-requires c = entered_take _ c.args.legs.now (c.loop-i.i - 0) c.requires.entered
@@ -21,13 +21,13 @@ from_start xs ls i n x = let e : i - 0 ≡ i = omega arith in ap (λ m. has x (n
 
 pub returns-then-met : goal.returns-then-met
 returns-then-met c =
-    sym (sym c.loop-i.invariant ∙ nodes_stop (legs_of c.args.all.now) c.start-origin.result c.args.legs.now c.loop-i.i c.loop-i-test.true (leg_of c.leg-at-node.result) c.leg-at-node.ensures
-    (sym (c.met.ensures ∙ from_start c.args.legs.now (legs_of c.args.all.now) c.loop-i.i c.start-origin.result c.leg-at-node.result.to) ∙ c.if-met.true))
+    sym (sym c.loop-i.invariant ∙ nodes_stop (legs_of c.args.all.now) c.start-origin.result c.args.legs.now c.loop-i.i c.loop-i-test.true (leg_of c.leg_at-node.result) c.leg_at-node.ensures
+    (sym (c.met.ensures ∙ from_start c.args.legs.now (legs_of c.args.all.now) c.loop-i.i c.start-origin.result c.leg_at-node.result.to) ∙ c.if-met.true))
 
 pub loop-i-preserved : goal.loop-i-preserved
 loop-i-preserved c =
-    sym (nodes_next (legs_of c.args.all.now) c.start-origin.result c.args.legs.now c.loop-i.i c.loop-i-test.true (leg_of c.leg-at-node.result) c.leg-at-node.ensures
-    (sym (c.met.ensures ∙ from_start c.args.legs.now (legs_of c.args.all.now) c.loop-i.i c.start-origin.result c.leg-at-node.result.to) ∙ c.if-met.false))
+    sym (nodes_next (legs_of c.args.all.now) c.start-origin.result c.args.legs.now c.loop-i.i c.loop-i-test.true (leg_of c.leg_at-node.result) c.leg_at-node.ensures
+    (sym (c.met.ensures ∙ from_start c.args.legs.now (legs_of c.args.all.now) c.loop-i.i c.start-origin.result c.leg_at-node.result.to) ∙ c.if-met.false))
     ∙ c.loop-i.invariant
 
 pub returns : goal.returns

@@ -5,8 +5,8 @@ use Rattle.sheet.specs.Views.{legs_of}
 use Rattle.sheet.proofs.Firsts.{first_entered, rest_entered, rest, rest_shorter, at_first, at_none}
 use Rattle.sheet.proofs.trace.+landed.Goals as goal
 
-pub leg-at-requires : goal.leg-at-requires
-leg-at-requires t c = first_entered _ c.args.legs.now c.requires (search rules)
+pub leg_at-requires : goal.leg_at-requires
+leg_at-requires t c = first_entered _ c.args.legs.now c.requires (search rules)
 
 pub landed-requires : goal.landed-requires
 landed-requires t c =

@@ -8,8 +8,8 @@ use Rattle.sheet.proofs.Firsts.{entered_at}
 use Rattle.sheet.proofs.Tracing.{one_more, goes_on, all_done}
 use Rattle.sheet.proofs.trace.passages.Goals as goal
 
-pub leg-at-requires : goal.leg-at-requires
-leg-at-requires c = entered_at _ c.args.legs.now c.loop-i.i c.requires.entered c.loop-i-test.true
+pub leg_at-requires : goal.leg_at-requires
+leg_at-requires c = entered_at _ c.args.legs.now c.loop-i.i c.requires.entered c.loop-i-test.true
 
 pub loop-i-preserved : goal.loop-i-preserved
 loop-i-preserved c =

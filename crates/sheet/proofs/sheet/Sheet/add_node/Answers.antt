@@ -6,33 +6,22 @@ use Rattle.sheet.specs.Views.{node_of, nodes_of, legs_of, path_legs, is_sound}
 use Rattle.sheet.proofs.Keeping.{drawn, node_keeps_legs, node_keeps_paths}
 use Rattle.sheet.proofs.sheet.Sheet.add_node.Goals as goal
 
-pub invariant-of-self : goal.invariant-of-self
-invariant-of-self c =
+pub invariant_of-self : goal.invariant_of-self
+invariant_of-self c =
     let s = c.args.self.now in
     let ns = vec_items s.nodes in
     let ls = vec_items s.legs in
-    let ps = vec_items s.paths in (
-      omega (arith, c.push-reserved.ensures.len),
-      (
-        omega (arith, c.push-reserved.ensures.len),
-        (
-          omega (arith, c.push-reserved.ensures.len),
-          (
-            omega (arith, c.push-reserved.ensures.capacity),
-            (
-              omega (arith, c.push-reserved.ensures.capacity),
-              (
-                omega (arith, c.push-reserved.ensures.capacity),
-                (
-                  ap (λ n. joins_all n (legs_of ls)) c.push-reserved.ensures.len ∙ node_keeps_legs ns ls ps _ s.nodes.ok.0 s.joined s.sound,
-                  (ap (λ xs. all_of (is_sound (nodes_of xs) (legs_of ls)) ps) c.push-reserved.ensures.items ∙ node_keeps_paths ns ls ps _ s.nodes.ok.0 s.joined s.sound c.args.node, tt),
-                ),
-              ),
-            ),
-          ),
-        ),
-      ),
-    )
+    let ps = vec_items s.paths in
+    record {
+      few_nodes = omega (arith, c.push_reserved.ensures.len);
+      few_legs = omega (arith, c.push_reserved.ensures.len);
+      few_paths = omega (arith, c.push_reserved.ensures.len);
+      node_room = omega (arith, c.push_reserved.ensures.capacity);
+      leg_room = omega (arith, c.push_reserved.ensures.capacity);
+      path_room = omega (arith, c.push_reserved.ensures.capacity);
+      joined = ap (λ n. joins_all n (legs_of ls)) c.push_reserved.ensures.len ∙ node_keeps_legs ns ls ps _ s.nodes.ok.0 s.joined s.sound;
+      sound = ap (λ xs. all_of (is_sound (nodes_of xs) (legs_of ls)) ps) c.push_reserved.ensures.items ∙ node_keeps_paths ns ls ps _ s.nodes.ok.0 s.joined s.sound c.args.node;
+    }
 
 pub returns : goal.returns
 returns c =
@@ -42,5 +31,5 @@ returns c =
     let ps = vec_items s.paths in
     record {
       number = c.len-number.ensures ∙ s.nodes.ok.0 ∙ sym (length-map ns node_of);
-      shows = ap (λ xs. drawn xs (legs_of ls) (map path_legs ps)) (ap nodes_of c.push-reserved.ensures.items ∙ map_push node_of ns c.args.node);
+      shows = ap (λ xs. drawn xs (legs_of ls) (map path_legs ps)) (ap nodes_of c.push_reserved.ensures.items ∙ map_push node_of ns c.args.node);
     }

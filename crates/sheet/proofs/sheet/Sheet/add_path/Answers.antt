@@ -5,37 +5,23 @@ use Rattle.sheet.specs.Views.{nodes_of, legs_of, path_legs, is_sound}
 use Rattle.sheet.proofs.Keeping.{drawn, path_keeps_paths}
 use Rattle.sheet.proofs.sheet.Sheet.add_path.Goals as goal
 
-pub invariant-of-self : goal.invariant-of-self
-invariant-of-self c =
+pub invariant_of-self : goal.invariant_of-self
+invariant_of-self c =
     let s = c.args.self.now in
     let ns = vec_items s.nodes in
     let ls = vec_items s.legs in
-    let ps = vec_items s.paths in (
-      omega (arith, c.push-reserved.ensures.len),
-      (
-        omega (arith, c.push-reserved.ensures.len),
-        (
-          omega (arith, c.push-reserved.ensures.len),
-          (
-            omega (arith, c.push-reserved.ensures.capacity),
-            (
-              omega (arith, c.push-reserved.ensures.capacity),
-              (
-                omega (arith, c.push-reserved.ensures.capacity),
-                (
-                  s.joined,
-                  (
-                    ap (all_of (is_sound (nodes_of ns) (legs_of ls))) c.push-reserved.ensures.items
-                        ∙ path_keeps_paths ns ls ps _ s.nodes.ok.0 s.joined s.sound c.args.path c.requires.sound.a_path c.requires.sound.route,
-                    tt,
-                  ),
-                ),
-              ),
-            ),
-          ),
-        ),
-      ),
-    )
+    let ps = vec_items s.paths in
+    record {
+      few_nodes = omega (arith, c.push_reserved.ensures.len);
+      few_legs = omega (arith, c.push_reserved.ensures.len);
+      few_paths = omega (arith, c.push_reserved.ensures.len);
+      node_room = omega (arith, c.push_reserved.ensures.capacity);
+      leg_room = omega (arith, c.push_reserved.ensures.capacity);
+      path_room = omega (arith, c.push_reserved.ensures.capacity);
+      joined = s.joined;
+      sound = ap (all_of (is_sound (nodes_of ns) (legs_of ls))) c.push_reserved.ensures.items
+          ∙ path_keeps_paths ns ls ps _ s.nodes.ok.0 s.joined s.sound c.args.path c.requires.sound.a_path c.requires.sound.route;
+    }
 
 pub returns : goal.returns
 returns c =
@@ -45,5 +31,5 @@ returns c =
     let ps = vec_items s.paths in
     record {
       number = c.len-number.ensures ∙ s.paths.ok.0 ∙ sym (length-map ps path_legs);
-      shows = ap (λ xs. drawn (nodes_of ns) (legs_of ls) xs) (ap (map path_legs) c.push-reserved.ensures.items ∙ map_push path_legs ps c.args.path);
+      shows = ap (λ xs. drawn (nodes_of ns) (legs_of ls) xs) (ap (map path_legs) c.push_reserved.ensures.items ∙ map_push path_legs ps c.args.path);
     }

@@ -12,5 +12,5 @@ returns-then-from-count c = grind (arith, nat_tests, length-map)
 pub returns : goal.returns
 returns c = grind (arith, nat_tests, length-map)
 
-pub returns-then-not-leg-figures-fit : goal.returns-then-not-leg-figures-fit
-returns-then-not-leg-figures-fit c = grind (arith, nat_tests, length-map)
+pub returns-then-not-leg_figures_fit : goal.returns-then-not-leg_figures_fit
+returns-then-not-leg_figures_fit c = grind (arith, nat_tests, length-map)

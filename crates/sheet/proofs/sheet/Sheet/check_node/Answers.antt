@@ -9,5 +9,5 @@ returns-then-len-ge40 c = grind (arith, nat_tests, length-map)
 pub returns : goal.returns
 returns c = grind (arith, nat_tests, length-map)
 
-pub returns-then-not-node-figures-fit : goal.returns-then-not-node-figures-fit
-returns-then-not-node-figures-fit c = grind (arith, nat_tests, length-map)
+pub returns-then-not-node_figures_fit : goal.returns-then-not-node_figures_fit
+returns-then-not-node_figures_fit c = grind (arith, nat_tests, length-map)

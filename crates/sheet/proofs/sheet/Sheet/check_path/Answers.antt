@@ -17,5 +17,5 @@ returns c =
     let d = drawing c.args.self.now in
     let ks = c.args.legs.now in
     let few : ltb (length d.paths) 128 ≡ true = grind (arith, nat_tests, length-map) in
-    checked_on PathCount (answered (ltb (length d.paths) 128)) (chain_questions d.nodes d.legs ks) (PathOf d.nodes d.legs ks) _ c.check-chain.result (ap answered few) (omega arith)
-    (checked_at _ _ _ _ ks c.check-chain.result c.as-slice.ensures.value c.as-slice-2.ensures.value c.check-chain.ensures)
+    checked_on PathCount (answered (ltb (length d.paths) 128)) (chain_questions d.nodes d.legs ks) (PathOf d.nodes d.legs ks) _ c.check_chain.result (ap answered few) (omega arith)
+    (checked_at _ _ _ _ ks c.check_chain.result c.as_slice.ensures.value c.as_slice-2.ensures.value c.check_chain.ensures)
