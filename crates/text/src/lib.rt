@@ -1,4 +1,6 @@
 // The lines, words and figures of a case text.
+#![tactic(auto)]
+
 pub mod laws;
 pub mod number;
 pub mod question;

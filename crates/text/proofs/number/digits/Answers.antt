@@ -16,11 +16,11 @@ returns-then-b-lt48 c =
     ] in
     record { value = sym (reading_none c.loop-b.n xs i c.loop-b-test.true no) ∙ c.loop-b.invariant.0; bound = tt }
 
-pub overflow-mul-n : goal.overflow-mul-n
-overflow-mul-n c = omega (arith, below_power c.loop-b.n c.loop-b.b-index 8 c.loop-b.invariant.1 (omega arith))
+pub overflow_mul-n : goal.overflow_mul-n
+overflow_mul-n c = omega (arith, below_power c.loop-b.n c.loop-b.b-index 8 c.loop-b.invariant.1 (omega arith))
 
-pub overflow-add-n : goal.overflow-add-n
-overflow-add-n c = omega (arith, below_power c.loop-b.n c.loop-b.b-index 8 c.loop-b.invariant.1 (omega arith))
+pub overflow_add-n : goal.overflow_add-n
+overflow_add-n c = omega (arith, below_power c.loop-b.n c.loop-b.b-index 8 c.loop-b.invariant.1 (omega arith))
 
 pub loop-b-preserved : goal.loop-b-preserved
 loop-b-preserved c =

@@ -12,14 +12,14 @@ use Rattle.text.proofs.row.read_words.Goals as goal
 
 pub loop-n-preserved : goal.loop-n-preserved
 loop-n-preserved c =
-    let word = c.first-word.result.0.now in
+    let word = c.first_word.result.0.now in
     let next = c.in-Some-more.next.now in
     let n = c.in-Some.n in
     let was = vec_items c.loop-n.into in
     let split : words c.loop-n.left.now ≡ word ∷ words next =
-    c.first-word.ensures.front ∙ ap (λ o. word ∷ words_of (option_map (λ x. x.now) o)) c.in-Some-more.is in
+    c.first_word.ensures.front ∙ ap (λ o. word ∷ words_of (option_map (λ x. x.now) o)) c.in-Some-more.is in
     let told = figure_some word n (sym c.in-Some.ensures.value) in
-    let put : vec_items c.push.new.self ≡ was ++ (n ∷ []) = pushed (n ∷ []) refl c.in-ok-push.was c.push.ensures.items in (
+    let put : vec_items c.push.new.self ≡ was ++ (n ∷ []) = pushed (n ∷ []) refl c.in_ok-push.was c.push.ensures.items in (
       sym (ap (each_from c.loop-n.place is_figure) split ∙ each_on is_figure c.loop-n.place word (words next) told.0) ∙ c.loop-n.invariant.0,
       ap (λ l. l ++ map value (words next)) put
           ∙ append_assoc was (n ∷ []) (map value (words next))
@@ -31,20 +31,20 @@ loop-n-preserved c =
       omega (arith, ap length put, length_push was n, c.loop-n.invariant.4),
     )
 
-pub returns-in-err-push : goal.returns-in-err-push
-returns-in-err-push c =
-    let p = err_from_is_err_and c.from-residual.result c.from-residual.ensures.1 in
+pub returns-in_err-push : goal.returns-in_err-push
+returns-in_err-push c =
+    let p = err_from_is_err_and c.from_residual.result c.from_residual.ensures.1 in
     let was = vec_items c.loop-n.into in
     record {
       reads = rw p.1 (record {
-        full = omega (arith, c.in-err-push.ensures.full, c.loop-n.invariant.3, c.loop-n.into.ok.0, fewer was c.loop-n.left.now c.args.rest.now c.loop-n.invariant.1);
-        front = (c.loop-n.place - 2, c.in-err-push.ensures.items ∙ so_far was c.loop-n.left.now c.args.rest.now c.loop-n.place c.loop-n.invariant.1 c.loop-n.invariant.4);
+        full = omega (arith, c.in_err-push.ensures.full, c.loop-n.invariant.3, c.loop-n.into.ok.0, fewer was c.loop-n.left.now c.args.rest.now c.loop-n.invariant.1);
+        front = (c.loop-n.place - 2, c.in_err-push.ensures.items ∙ so_far was c.loop-n.left.now c.args.rest.now c.loop-n.place c.loop-n.invariant.1 c.loop-n.invariant.4);
       });
       room = omega (arith, c.push.ensures.capacity, c.loop-n.invariant.3);
     }
 
-pub returns-in-default : goal.returns-in-default
-returns-in-default c =
+pub returns-in_default : goal.returns-in_default
+returns-in_default c =
     let was = vec_items c.loop-n.into in
     record {
       reads = record {

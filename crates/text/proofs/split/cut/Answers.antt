@@ -7,25 +7,25 @@ use Rattle.text.proofs.split.cut.Goals as goal
 pub returns-then-end-bytes : goal.returns-then-end-bytes
 returns-then-end-bytes c =
     let xs = c.args.bytes.now in
-    let i = c.place-of-end.result in
-    let told = c.place-of-end.ensures in
+    let i = c.place_of-end.result in
+    let told = c.place_of-end.ensures in
     let inside = c.if-end-bytes.true in
     let back : take (length xs - (i + 1)) (drop (i + 1) xs) ≡ drop (suc i) xs = take_rest xs (i + 1) ∙ ap (λ n. drop n xs) (add-one i) in
     let front : take (i - 0) xs ≡ take i xs = ap (λ n. take n xs) (sub-zero i) in
     record {
       follows = cc (back, after_at c.args.mark xs i inside told.before (told.found inside));
       len = search rules;
-      as-lines = λ _. cc (back, front, parted_at [] c.args.mark xs i inside told.before (told.found inside));
-      as-words = cc (back, front, parted_at ([] ∷ []) c.args.mark xs i inside told.before (told.found inside));
+      as_lines = λ _. cc (back, front, parted_at [] c.args.mark xs i inside told.before (told.found inside));
+      as_words = cc (back, front, parted_at ([] ∷ []) c.args.mark xs i inside told.before (told.found inside));
     }
 
 pub returns-else-end-bytes : goal.returns-else-end-bytes
 returns-else-end-bytes c =
     let xs = c.args.bytes.now in
-    let free : Free c.args.mark xs (length xs) = λ k h. c.place-of-end.ensures.before k (omega arith) in
+    let free : Free c.args.mark xs (length xs) = λ k h. c.place_of-end.ensures.before k (omega arith) in
     record {
       follows = sym (after_none c.args.mark xs free);
       len = refl;
-      as-lines = λ h. lines_whole c.args.mark xs h free;
-      as-words = words_whole c.args.mark xs free;
+      as_lines = λ h. lines_whole c.args.mark xs h free;
+      as_words = words_whole c.args.mark xs free;
     }
