@@ -14,10 +14,10 @@ returns-in-Ok c =
     let l = c.args.line.now in
     let w = c.in-Some.word in
     let st' = c.turn.new.stage in
-    let read = c.in-default-line-figures.ensures.figures in
-    let figs = c.as-slice.ensures.value ∙ read.1 in
+    let read = c.in_default-line_figures.ensures.figures in
+    let figs = c.as_slice.ensures.value ∙ read.1 in
     let told = c.in-Ok.ensures in
-    step_is st d (length (figure_words l)) (each_from 2 is_figure (figure_words l)) (figures_of l) (word_of (first_word l)) w st' None c.in-Some.ensures.0 c.in-Some.ensures.1 c.in-default-stage.not-Past read.0
+    step_is st d (length (figure_words l)) (each_from 2 is_figure (figure_words l)) (figures_of l) (word_of (first_word l)) w st' None c.in-Some.ensures.0 c.in-Some.ensures.1 c.in_default-stage.not-Past read.0
     (ap (λ fs. first_no (sheet_questions d w fs)) (sym figs) ∙ none_from_ok _ tt _ told.answers)
     ∙ ap (leads st') (ap (entered d w) (sym figs) ∙ sym told.leaves)
 
@@ -28,9 +28,9 @@ returns-in-Err-enter c =
     let l = c.args.line.now in
     let w = c.in-Some.word in
     let st' = c.turn.new.stage in
-    let read = c.in-default-line-figures.ensures.figures in
-    let figs = c.as-slice.ensures.value ∙ read.1 in
+    let read = c.in_default-line_figures.ensures.figures in
+    let figs = c.as_slice.ensures.value ∙ read.1 in
     let told = c.in-Err-enter.ensures in
-    step_is st d (length (figure_words l)) (each_from 2 is_figure (figure_words l)) (figures_of l) (word_of (first_word l)) w st' (Some c.in-Err-enter.fault) c.in-Some.ensures.0 c.in-Some.ensures.1 c.in-default-stage.not-Past read.0
+    step_is st d (length (figure_words l)) (each_from 2 is_figure (figure_words l)) (figures_of l) (word_of (first_word l)) w st' (Some c.in-Err-enter.fault) c.in-Some.ensures.0 c.in-Some.ensures.1 c.in_default-stage.not-Past read.0
     (ap (λ fs. first_no (sheet_questions d w fs)) (sym figs) ∙ some_from_err _ tt c.in-Err-enter.fault told.answers)
     ∙ ap fails (sym c.of_sheet.ensures)
