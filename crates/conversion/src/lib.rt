@@ -1,4 +1,6 @@
 // What bids are worth at the sending end of each path of a case.
+#![tactic(auto)]
+
 pub mod bid;
 pub mod listing;
 
@@ -6,11 +8,13 @@ pub mod listing;
 mod tests {
     use crate::bid::bid;
     use crate::listing::convert;
-    use std::test::*;
+    use std::alloc::AllocGlobal;
+    use std::process::Abort;
+    use std::test::Fail;
 
-    fn prints(rt: &HostRuntime, text: &str, expected: &str) -> Result<(), Fail> {
+    fn prints(rt: &(impl Abort + AllocGlobal), text: &str, expected: &str) -> Result<(), Fail> {
         let out = convert(rt.alloc(), text.as_bytes(), &[])?;
-        assert_eq!(out.as_str(), expected, "{}", text);
+        assert_eq!(rt; out.as_str(), expected, "{}", text);
         Ok(())
     }
 
@@ -48,7 +52,7 @@ mod tests {
     }
 
     // What a case of two nodes prints that goes on with `text`.
-    fn goes_on(rt: &HostRuntime, text: &str, expected: &str) -> Result<(), Fail> {
+    fn goes_on(rt: &(impl Abort + AllocGlobal), text: &str, expected: &str) -> Result<(), Fail> {
         let mut case = String::from_str(rt.alloc(), "node 1 0 0 0\nnode 2 0 0 0\n")?;
         case.push_str(text)?;
         prints(rt, case.as_str(), expected)

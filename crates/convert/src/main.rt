@@ -1,5 +1,8 @@
 // Reads a case text from standard input, and prints what each path yields and what each bid, given as an argument, is worth
 // at the path's sending end.
+#![tactic(auto)]
+
+use anyhow::anyhow;
 use conversion::bid::bid;
 use conversion::listing::convert;
 use rules::price::Yuan;
@@ -11,10 +14,9 @@ fn bids(rt: &HostRuntime) -> anyhow::Result<Vec<Yuan>> {
     let mut bids = Vec::new(rt.alloc());
     for word in env::args(rt)?.skip(1) {
         let Some(yuan) = bid(word.as_bytes()) else {
-            let message = format!(in rt.alloc();
+            return Err(anyhow!(
                 "'{word}' is no bid: write a whole number of yuan from -1000 to 10000"
-            )?;
-            return Err(message.into());
+            ));
         };
         bids.push(yuan)?;
     }

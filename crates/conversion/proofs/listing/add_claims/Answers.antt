@@ -6,9 +6,9 @@ use Rattle.conversion.proofs.listing.add_claims.Goals as goal
 pub loop-bid-preserved : goal.loop-bid-preserved
 loop-bid-preserved c =
     let out = string_bytes c.loop-bid.out in
-    claims_on c.args.number (route_of c.args.path.now) c.args.bids.now c.loop-bid.bid-index c.bid-item.result out (string_bytes c.push-str.new.self)
+    claims_on c.args.number (route_of c.args.path.now) c.args.bids.now c.loop-bid.bid-index c.bid-item.result out (string_bytes c.push_str.new.self)
     c.loop-bid-test.true c.bid-item.is
-    (c.in-ok-push-str.ensures.bytes ∙ ap (λ l. out ++ l) (c.as-str.ensures.value ∙ c.in-ok-line.ensures))
+    (c.in_ok-push_str.ensures.bytes ∙ ap (λ l. out ++ l) (c.as_str.ensures.value ∙ c.in_ok-line.ensures))
     ∙ c.loop-bid.invariant
 
 pub returns : goal.returns

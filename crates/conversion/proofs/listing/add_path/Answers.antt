@@ -10,8 +10,8 @@ returns c =
     let out = string_bytes c.args.out.now in
     let r = route_of c.args.path.now in
     let claims = claim_lines c.args.number r (whole_yuan c.args.bids.now) in
-    IfOk-weaker c.add-claims.result _ _
+    IfOk-weaker c.add_claims.result _ _
     (λ x e. e
-    ∙ ap (λ t. t ++ claims) (c.in-ok-push-str.ensures.bytes ∙ ap (λ l. out ++ l) (c.as-str.ensures.value ∙ c.in-ok-line.ensures))
+    ∙ ap (λ t. t ++ claims) (c.in_ok-push_str.ensures.bytes ∙ ap (λ l. out ++ l) (c.as_str.ensures.value ∙ c.in_ok-line.ensures))
     ∙ append_assoc out (path_line c.args.number r) claims)
-    c.add-claims.ensures
+    c.add_claims.ensures
