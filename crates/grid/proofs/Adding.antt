@@ -20,26 +20,26 @@ use Rattle.grid.specs.declared.sections.SectionGrid.{SectionGrid}
 use Rattle.grid.specs.Stacks.{in_all_of}
 
 -- the gauges from one on, where it may stand and where it may not
-module _ (ground n i k : ℕ) (ks : List ℕ) where
-  first_stands : (leb n k && ltb k ground) ≡ true → gauges_from ground n i (k ∷ ks) ≡ gauges_from ground (k + 1) (i + 1) ks
-  first_stands e = ap (λ b. elim b [ true ↦ gauges_from ground (k + 1) (i + 1) ks | false ↦ No i ]) e
+module _ (grounds n i k : ℕ) (ks : List ℕ) where
+  first_stands : (leb n k && ltb k grounds) ≡ true → gauges_from grounds n i (k ∷ ks) ≡ gauges_from grounds (k + 1) (i + 1) ks
+  first_stands e = ap (λ b. elim b [ true ↦ gauges_from grounds (k + 1) (i + 1) ks | false ↦ No i ]) e
 
-  first_falls : (leb n k && ltb k ground) ≡ false → gauges_from ground n i (k ∷ ks) ≡ No i
-  first_falls e = ap (λ b. elim b [ true ↦ gauges_from ground (k + 1) (i + 1) ks | false ↦ No i ]) e
+  first_falls : (leb n k && ltb k grounds) ≡ false → gauges_from grounds n i (k ∷ ks) ≡ No i
+  first_falls e = ap (λ b. elim b [ true ↦ gauges_from grounds (k + 1) (i + 1) ks | false ↦ No i ]) e
 
-module _ (ground n i : ℕ) (ks : List ℕ) (at : ℕ) (real : at < length ks) where
-  here_and_on : gauges_from ground n i (drop at ks) ≡ gauges_from ground n i (get_or ks at 0 ∷ drop (at + 1) ks)
-  here_and_on = at_drop_more (gauges_from ground n i) ks at 0 real
+module _ (grounds n i : ℕ) (ks : List ℕ) (at : ℕ) (real : at < length ks) where
+  here_and_on : gauges_from grounds n i (drop at ks) ≡ gauges_from grounds n i (get_or ks at 0 ∷ drop (at + 1) ks)
+  here_and_on = at_drop_more (gauges_from grounds n i) ks at 0 real
 
-  pub goes_on : (leb n (get_or ks at 0) && ltb (get_or ks at 0) ground) ≡ true → gauges_from ground n i (drop at ks) ≡ gauges_from ground (get_or ks at 0 + 1) (i + 1) (drop (at + 1) ks)
-  goes_on e = here_and_on ∙ first_stands ground n i (get_or ks at 0) (drop (at + 1) ks) e
+  pub goes_on : (leb n (get_or ks at 0) && ltb (get_or ks at 0) grounds) ≡ true → gauges_from grounds n i (drop at ks) ≡ gauges_from grounds (get_or ks at 0 + 1) (i + 1) (drop (at + 1) ks)
+  goes_on e = here_and_on ∙ first_stands grounds n i (get_or ks at 0) (drop (at + 1) ks) e
 
-  pub stops_here : (leb n (get_or ks at 0) && ltb (get_or ks at 0) ground) ≡ false → gauges_from ground n i (drop at ks) ≡ No i
-  stops_here e = here_and_on ∙ first_falls ground n i (get_or ks at 0) (drop (at + 1) ks) e
+  pub stops_here : (leb n (get_or ks at 0) && ltb (get_or ks at 0) grounds) ≡ false → gauges_from grounds n i (drop at ks) ≡ No i
+  stops_here e = here_and_on ∙ first_falls grounds n i (get_or ks at 0) (drop (at + 1) ks) e
 
 -- strictly rising ground gauges, none below n
 abbrev fine : ℕ → ℕ → List ℕ → Bool
-fine ground n ks = rising_from n ks && all_of (λ k. ltb k ground) ks
+fine grounds n ks = rising_from n ks && all_of (λ k. ltb k grounds) ks
 
 together : (a b r s : Bool) → (a && b) ≡ true → ((a && r) && (b && s)) ≡ (r && s)
 together true true r s h = refl
@@ -51,72 +51,72 @@ apart true true r s h = absurd (both_ways true h refl)
 apart true false r s h = and_right r false refl
 apart false b r s h = refl
 
-first_fine : (ground n k : ℕ) (ks : List ℕ) → (leb n k && ltb k ground) ≡ true → fine ground n (k ∷ ks) ≡ fine ground (k + 1) ks
-first_fine ground n k ks h = together (leb n k) (ltb k ground) (rising_from (k + 1) ks) (all_of (λ j. ltb j ground) ks) h
+first_fine : (grounds n k : ℕ) (ks : List ℕ) → (leb n k && ltb k grounds) ≡ true → fine grounds n (k ∷ ks) ≡ fine grounds (k + 1) ks
+first_fine grounds n k ks h = together (leb n k) (ltb k grounds) (rising_from (k + 1) ks) (all_of (λ j. ltb j grounds) ks) h
 
-all_fine : (ground n i : ℕ) (ks : List ℕ) → gauges_from ground n i ks ≡ Yes → fine ground n ks ≡ true
-all_fine ground n i [] h = refl
-all_fine ground n i (k ∷ ks) h =
-    let p = passes (leb n k && ltb k ground) i (gauges_from ground (k + 1) (i + 1) ks) h in
-    first_fine ground n k ks p.0 ∙ all_fine ground (k + 1) (i + 1) ks p.1
+all_fine : (grounds n i : ℕ) (ks : List ℕ) → gauges_from grounds n i ks ≡ Yes → fine grounds n ks ≡ true
+all_fine grounds n i [] h = refl
+all_fine grounds n i (k ∷ ks) h =
+    let p = passes (leb n k && ltb k grounds) i (gauges_from grounds (k + 1) (i + 1) ks) h in
+    first_fine grounds n k ks p.0 ∙ all_fine grounds (k + 1) (i + 1) ks p.1
 
-fine_all : (ground n i : ℕ) (ks : List ℕ) → fine ground n ks ≡ true → gauges_from ground n i ks ≡ Yes
-fine_all ground n i [] h = refl
-fine_all ground n i (k ∷ ks) h =
-    elim (cases_Bool (leb n k && ltb k ground)) [
-      | inl e ↦ first_stands ground n i k ks e ∙ fine_all ground (k + 1) (i + 1) ks (sym (first_fine ground n k ks e) ∙ h)
-      | inr e ↦ absurd (both_ways (fine ground n (k ∷ ks)) (apart (leb n k) (ltb k ground) _ _ e) h)
+fine_all : (grounds n i : ℕ) (ks : List ℕ) → fine grounds n ks ≡ true → gauges_from grounds n i ks ≡ Yes
+fine_all grounds n i [] h = refl
+fine_all grounds n i (k ∷ ks) h =
+    elim (cases_Bool (leb n k && ltb k grounds)) [
+      | inl e ↦ first_stands grounds n i k ks e ∙ fine_all grounds (k + 1) (i + 1) ks (sym (first_fine grounds n k ks e) ∙ h)
+      | inr e ↦ absurd (both_ways (fine grounds n (k ∷ ks)) (apart (leb n k) (ltb k grounds) _ _ e) h)
     ]
 
 -- a no names the first gauge with which they are no longer fine
-no_at : (ground n i : ℕ) (ks : List ℕ) (p : ℕ) → gauges_from ground n i ks ≡ No p → (j : ℕ) × (p ≡ i + j) × Next (fine ground n) ks j
-no_at ground n i [] p h = absurd (never (sym h))
-no_at ground n i (k ∷ ks) p h =
-    elim (stops_or_goes (leb n k && ltb k ground) i (gauges_from ground (k + 1) (i + 1) ks) p h) [
-      | inl s ↦ (zero, omega (arith, s.1), record { inside = omega arith; before = refl; here = apart (leb n k) (ltb k ground) true true s.0 })
+no_at : (grounds n i : ℕ) (ks : List ℕ) (p : ℕ) → gauges_from grounds n i ks ≡ No p → (j : ℕ) × (p ≡ i + j) × Next (fine grounds n) ks j
+no_at grounds n i [] p h = absurd (never (sym h))
+no_at grounds n i (k ∷ ks) p h =
+    elim (stops_or_goes (leb n k && ltb k grounds) i (gauges_from grounds (k + 1) (i + 1) ks) p h) [
+      | inl s ↦ (zero, omega (arith, s.1), record { inside = omega arith; before = refl; here = apart (leb n k) (ltb k grounds) true true s.0 })
       | inr s ↦
-          let r = no_at ground (k + 1) (i + 1) ks p s.1 in (
+          let r = no_at grounds (k + 1) (i + 1) ks p s.1 in (
             suc r.0,
             omega (arith, r.1),
             record {
               inside = omega (arith, r.2.inside);
-              before = first_fine ground n k (take r.0 ks) s.0 ∙ r.2.before;
-              here = first_fine ground n k (take (suc r.0) ks) s.0 ∙ r.2.here;
+              before = first_fine grounds n k (take r.0 ks) s.0 ∙ r.2.before;
+              here = first_fine grounds n k (take (suc r.0) ks) s.0 ∙ r.2.here;
             },
           )
     ]
 
-at_no : (ground n i : ℕ) (ks : List ℕ) (j : ℕ) → Next (fine ground n) ks j → gauges_from ground n i ks ≡ No (i + j)
-at_no ground n i [] j f = absurd (omega (arith, f.inside))
-at_no ground n i (k ∷ ks) zero f =
-    elim (cases_Bool (leb n k && ltb k ground)) [
-      | inl e ↦ absurd (both_ways (fine ground n (k ∷ [])) f.here (first_fine ground n k [] e))
-      | inr e ↦ first_falls ground n i k ks e ∙ ap No (omega arith)
+at_no : (grounds n i : ℕ) (ks : List ℕ) (j : ℕ) → Next (fine grounds n) ks j → gauges_from grounds n i ks ≡ No (i + j)
+at_no grounds n i [] j f = absurd (omega (arith, f.inside))
+at_no grounds n i (k ∷ ks) zero f =
+    elim (cases_Bool (leb n k && ltb k grounds)) [
+      | inl e ↦ absurd (both_ways (fine grounds n (k ∷ [])) f.here (first_fine grounds n k [] e))
+      | inr e ↦ first_falls grounds n i k ks e ∙ ap No (omega arith)
     ]
-at_no ground n i (k ∷ ks) (suc j) f =
-    elim (cases_Bool (leb n k && ltb k ground)) [
+at_no grounds n i (k ∷ ks) (suc j) f =
+    elim (cases_Bool (leb n k && ltb k grounds)) [
       | inl e ↦
-          let more = at_no ground (k + 1) (i + 1) ks j (record { inside = omega (arith, f.inside); before = sym (first_fine ground n k (take j ks) e) ∙ f.before; here = sym (first_fine ground n k (take (suc j) ks) e) ∙ f.here }) in
-          first_stands ground n i k ks e ∙ more ∙ ap No (omega arith)
-      | inr e ↦ absurd (both_ways (fine ground n (k ∷ take j ks)) (apart (leb n k) (ltb k ground) _ _ e) f.before)
+          let more = at_no grounds (k + 1) (i + 1) ks j (record { inside = omega (arith, f.inside); before = sym (first_fine grounds n k (take j ks) e) ∙ f.before; here = sym (first_fine grounds n k (take (suc j) ks) e) ∙ f.here }) in
+          first_stands grounds n i k ks e ∙ more ∙ ap No (omega arith)
+      | inr e ↦ absurd (both_ways (fine grounds n (k ∷ take j ks)) (apart (leb n k) (ltb k grounds) _ _ e) f.before)
     ]
 
 -- with the question on the count
-pub counted_in : (ground : ℕ) (ks : List ℕ) → one_to_sixteen ks ≡ true → gauges_answer ground ks ≡ gauges_from ground 0 1 ks
-counted_in ground ks h = ap (λ b. elim b [ true ↦ gauges_from ground 0 1 ks | false ↦ No 0 ]) h
+pub counted_in : (grounds : ℕ) (ks : List ℕ) → one_to_sixteen ks ≡ true → gauges_answer grounds ks ≡ gauges_from grounds 0 1 ks
+counted_in grounds ks h = ap (λ b. elim b [ true ↦ gauges_from grounds 0 1 ks | false ↦ No 0 ]) h
 
-pub counted_out : (ground : ℕ) (ks : List ℕ) → one_to_sixteen ks ≡ false → gauges_answer ground ks ≡ No 0
-counted_out ground ks h = ap (λ b. elim b [ true ↦ gauges_from ground 0 1 ks | false ↦ No 0 ]) h
+pub counted_out : (grounds : ℕ) (ks : List ℕ) → one_to_sixteen ks ≡ false → gauges_answer grounds ks ≡ No 0
+counted_out grounds ks h = ap (λ b. elim b [ true ↦ gauges_from grounds 0 1 ks | false ↦ No 0 ]) h
 
-pub gauges_yes : (ground : ℕ) (ks : List ℕ) → gauges_answer ground ks ≡ Yes → (one_to_sixteen ks ≡ true) × (rising_ground ground ks ≡ true)
-gauges_yes ground ks h = let p = passes (one_to_sixteen ks) 0 (gauges_from ground 0 1 ks) h in (p.0, all_fine ground 0 1 ks p.1)
+pub gauges_yes : (grounds : ℕ) (ks : List ℕ) → gauges_answer grounds ks ≡ Yes → (one_to_sixteen ks ≡ true) × (rising_ground grounds ks ≡ true)
+gauges_yes grounds ks h = let p = passes (one_to_sixteen ks) 0 (gauges_from grounds 0 1 ks) h in (p.0, all_fine grounds 0 1 ks p.1)
 
 -- a section that passes its questions
-pub passes_all : (n : ℕ) (m : Meaning) (ks : List ℕ) (limit : ℕ) → n < 8 → gauges_of m < 256 → gauges_answer m.ground ks ≡ Yes → limit ≤ 100000
+pub passes_all : (n : ℕ) (m : Meaning) (ks : List ℕ) (limit : ℕ) → n < 8 → gauges_of m < 256 → gauges_answer m.grounds ks ≡ Yes → limit ≤ 100000
     → first_no (section_questions n m ks limit) ≡ None
 passes_all n m ks limit few few_in_all gauges within =
     let last : List (Asked GridQuestion) = asked SectionLimit (answered (leb limit 100000)) ∷ [] in
-    asks_on SectionCount _ (asked SectionGauges (gauges_answer m.ground ks) ∷ last) (ap answered (and_from (ltb n 8) (ltb (gauges_of m) 256) (lt-ltb n 8 few) (lt-ltb (gauges_of m) 256 few_in_all)))
+    asks_on SectionCount _ (asked SectionGauges (gauges_answer m.grounds ks) ∷ last) (ap answered (and_from (ltb n 8) (ltb (gauges_of m) 256) (lt-ltb n 8 few) (lt-ltb (gauges_of m) 256 few_in_all)))
     ∙ asks_on SectionGauges _ last gauges
     ∙ asks_on SectionLimit _ [] (ap answered (le-leb limit 100000 within))
 
@@ -124,13 +124,13 @@ pub sections_stand_lem : SectionsStand
 sections_stand_lem =
     record {
       yes = gauges_yes;
-      yes_from = λ ground ks some h. counted_in ground ks some ∙ fine_all ground 0 1 ks h;
+      yes_from = λ grounds ks some h. counted_in grounds ks some ∙ fine_all grounds 0 1 ks h;
       count = counted_out;
-      no = λ ground ks p some h.
-          let r = no_at ground 0 1 ks p (sym (counted_in ground ks some) ∙ h) in
-          fails_at (rising_ground ground) ks r.0 p r.1 r.2;
-      no_from = λ ground ks p some f.
-          counted_in ground ks some ∙ at_no ground 0 1 ks (p - 1) (next_of (rising_ground ground) ks p f) ∙ ap No (omega (arith, f.some));
+      no = λ grounds ks p some h.
+          let r = no_at grounds 0 1 ks p (sym (counted_in grounds ks some) ∙ h) in
+          fails_at (rising_ground grounds) ks r.0 p r.1 r.2;
+      no_from = λ grounds ks p some f.
+          counted_in grounds ks some ∙ at_no grounds 0 1 ks (p - 1) (next_of (rising_ground grounds) ks p f) ∙ ap No (omega (arith, f.some));
     }
 
 -- gauges that are all ground are all kept
@@ -157,14 +157,14 @@ module _ {G : Type 0} (means : G → Meaning) (g : SectionGrid G) (law : Lawful 
   one_counts : counted (gauges_of under) (g.count + 1) ≡ g.count + 1
   one_counts = omega (arith, add.few_in_all, in_all_of means g law, all_count)
 
-  ground_only : ground_in under.ground s ≡ gauges_in s
-  ground_only = kept_all (λ k. ltb k under.ground) (gauges_in s) (and_parts (rising_from 0 (gauges_in s)) _ add.grounded).1
+  ground_only : ground_in under.grounds s ≡ gauges_in s
+  ground_only = kept_all (λ k. ltb k under.grounds) (gauges_in s) (and_parts (rising_from 0 (gauges_in s)) _ add.grounded).1
 
   sections_are : overs under more_sections (g.count + 1) ≡ overs under g.sections g.count ++ (gauges_in s ∷ [])
   sections_are =
       let low : g.count < length g.sections = omega (arith, add.few, g.section_places) in
-      ap (map (ground_in under.ground)) (take_more_set g.sections g.count s low)
-      ∙ map_push (ground_in under.ground) (take g.count g.sections) s
+      ap (map (ground_in under.grounds)) (take_more_set g.sections g.count s low)
+      ∙ map_push (ground_in under.grounds) (take g.count g.sections) s
       ∙ ap (λ ks. overs under g.sections g.count ++ (ks ∷ [])) ground_only
 
   rooms_are : take (g.count + 1) more_rooms ≡ take g.count g.rooms ++ (limit_room limit ∷ [])

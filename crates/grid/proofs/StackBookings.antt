@@ -26,8 +26,8 @@ map-map f h (x ∷ xs) = ap (λ ys. f (h x) ∷ ys) (map-map f h xs)
 -- what a path weighs on the first n sections
 pub weights_taken : (m : Meaning) (ss : List Section) (p n : ℕ) → take n (section_weights m ss p) ≡ added_weights (overs m ss n) (weights_of m p)
 weights_taken m ss p n =
-    take-map (λ s. weight_over (ground_in m.ground s) (weights_of m p)) n ss
-    ∙ sym (map-map (λ ks. weight_over ks (weights_of m p)) (ground_in m.ground) (take n ss))
+    take-map (λ s. weight_over (ground_in m.grounds s) (weights_of m p)) n ss
+    ∙ sym (map-map (λ ks. weight_over ks (weights_of m p)) (ground_in m.grounds) (take n ss))
 
 -- booking on a grid with sections: there is room where there is below and on the sections, and both are lowered
 module _ (m : Meaning) (law : Lawful m) (ss : List Section) (rs : List Watts) (n p : ℕ) (real : p < paths_of m) (q : Mw) where

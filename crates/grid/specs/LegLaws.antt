@@ -83,8 +83,8 @@ lowered_rooms g p q slice part new rooms weights is =
 
 -- the same rows with lowered rooms
 pub legs_booked : (g : LegGrid) (p : ℕ) (q : Mw) (rs : List Watts) → rs ≡ lowered q (vec_items g.rooms) (weights_of (on_legs g) p)
-    → ◌≡◌ {A = Meaning} (record { ground = length rs; rooms = rs; weights = map (weights_in (length rs)) (vec_items g.rows) }) (booked (on_legs g) p q)
+    → ◌≡◌ {A = Meaning} (record { grounds = length rs; rooms = rs; weights = map (weights_in (length rs)) (vec_items g.rows) }) (booked (on_legs g) p q)
 legs_booked g p q rs rooms =
     let many : length rs ≡ length (vec_items g.rooms) = ap length rooms ∙ length-lowered q (vec_items g.rooms) (weights_of (on_legs g) p) in
-    ap (λ n. record { ground = n; rooms = rs; weights = map (weights_in n) (vec_items g.rows) }) many
-    ∙ ap (λ xs. record { ground = length (vec_items g.rooms); rooms = xs; weights = (on_legs g).weights }) rooms
+    ap (λ n. record { grounds = n; rooms = rs; weights = map (weights_in n) (vec_items g.rows) }) many
+    ∙ ap (λ xs. record { grounds = length (vec_items g.rooms); rooms = xs; weights = (on_legs g).weights }) rooms

@@ -16,7 +16,7 @@ weights_in n r = take n r.on
 
 abbrev pub on_legs : LegGrid → Meaning
 on_legs g = record {
-  ground = length (vec_items g.rooms);
+  grounds = length (vec_items g.rooms);
   rooms = vec_items g.rooms;
   weights = map (weights_in (length (vec_items g.rooms))) (vec_items g.rows);
 }

@@ -18,25 +18,25 @@ one_to_sixteen ks = nat_le 1 (length ks) && nat_le (length ks) 16
 -- ground gauges in strictly rising order; the place is that of the first that is not ground or not above the one before it. The gauges stand from
 -- place i on, and the first may not be below n
 abbrev pub gauges_from : ℕ → ℕ → ℕ → List ℕ → Answer
-gauges_from ground n i [] = Yes
-gauges_from ground n i (k ∷ ks) = elim (nat_le n k && nat_lt k ground) [ true ↦ gauges_from ground (k + 1) (i + 1) ks | false ↦ No i ]
+gauges_from grounds n i [] = Yes
+gauges_from grounds n i (k ∷ ks) = elim (nat_le n k && nat_lt k grounds) [ true ↦ gauges_from grounds (k + 1) (i + 1) ks | false ↦ No i ]
 
 -- where the count offends there is no place
 abbrev pub gauges_answer : ℕ → List ℕ → Answer
-gauges_answer ground ks = elim (one_to_sixteen ks) [ true ↦ gauges_from ground 0 1 ks | false ↦ No 0 ]
+gauges_answer grounds ks = elim (one_to_sixteen ks) [ true ↦ gauges_from grounds 0 1 ks | false ↦ No 0 ]
 
 -- a section over the gauges ks with this limit, above a grid that means m and has so many sections of its own
 abbrev pub section_questions : ℕ → Meaning → List ℕ → ℕ → List (Asked GridQuestion)
 section_questions sections m ks limit =
     asked SectionCount (answered (nat_lt sections 8 && nat_lt (gauges_of m) 256))
-    ∷ (asked SectionGauges (gauges_answer m.ground ks)
+    ∷ (asked SectionGauges (gauges_answer m.grounds ks)
     ∷ (asked SectionLimit (answered (nat_le limit 100000))
     ∷ []))
 
 -- a section that may be added
 pub record Addable {G : Type 0} (means : G → Meaning) (g : SectionGrid G) (ks : List ℕ) (limit : ℕ) (s : Section) : Type 0 where
   pub gauges : gauges_in s ≡ ks
-  pub grounded : rising_ground (over means g).ground ks ≡ true
+  pub grounded : rising_ground (over means g).grounds ks ≡ true
   pub few : g.count < 8
   pub few_in_all : gauges_of (over means g) < 256
   pub within : limit ≤ 100000

@@ -6,8 +6,8 @@ use Rattle.rules.specs.declared.fault.Answer.TheVariants.{Yes, No}
 use Rattle.grid.specs.SectionAsks.{one_to_sixteen, gauges_answer}
 
 pub record SectionsStand : Type 0 where
-  pub yes : (ground : ℕ) (ks : List ℕ) → gauges_answer ground ks ≡ Yes → (one_to_sixteen ks ≡ true) × (rising_ground ground ks ≡ true)
-  pub yes_from : (ground : ℕ) (ks : List ℕ) → one_to_sixteen ks ≡ true → rising_ground ground ks ≡ true → gauges_answer ground ks ≡ Yes
-  pub count : (ground : ℕ) (ks : List ℕ) → one_to_sixteen ks ≡ false → gauges_answer ground ks ≡ No 0
-  pub no : (ground : ℕ) (ks : List ℕ) (p : ℕ) → one_to_sixteen ks ≡ true → gauges_answer ground ks ≡ No p → FailsAt (rising_ground ground) ks p
-  pub no_from : (ground : ℕ) (ks : List ℕ) (p : ℕ) → one_to_sixteen ks ≡ true → FailsAt (rising_ground ground) ks p → gauges_answer ground ks ≡ No p
+  pub yes : (grounds : ℕ) (ks : List ℕ) → gauges_answer grounds ks ≡ Yes → (one_to_sixteen ks ≡ true) × (rising_ground grounds ks ≡ true)
+  pub yes_from : (grounds : ℕ) (ks : List ℕ) → one_to_sixteen ks ≡ true → rising_ground grounds ks ≡ true → gauges_answer grounds ks ≡ Yes
+  pub count : (grounds : ℕ) (ks : List ℕ) → one_to_sixteen ks ≡ false → gauges_answer grounds ks ≡ No 0
+  pub no : (grounds : ℕ) (ks : List ℕ) (p : ℕ) → one_to_sixteen ks ≡ true → gauges_answer grounds ks ≡ No p → FailsAt (rising_ground grounds) ks p
+  pub no_from : (grounds : ℕ) (ks : List ℕ) (p : ℕ) → one_to_sixteen ks ≡ true → FailsAt (rising_ground grounds) ks p → gauges_answer grounds ks ≡ No p

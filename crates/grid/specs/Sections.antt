@@ -12,14 +12,14 @@ gauges_in s = take s.count s.gauges
 -- A type cannot say that its sections fit the grid below it. So a gauge that is not ground there, and a section that would be the 257th gauge,
 -- count for nothing; adding a section lets neither in, and no grid changes its counts.
 abbrev pub ground_in : ℕ → Section → List ℕ
-ground_in ground s = filter (λ k. nat_lt k ground) (gauges_in s)
+ground_in grounds s = filter (λ k. nat_lt k grounds) (gauges_in s)
 
 abbrev pub counted : ℕ → ℕ → ℕ
 counted below count = min count (256 - below)
 
 -- the first n sections above a grid that means m
 abbrev pub overs : Meaning → List Section → ℕ → List (List ℕ)
-overs m ss n = map (ground_in m.ground) (take n ss)
+overs m ss n = map (ground_in m.grounds) (take n ss)
 
 abbrev pub stacked : Meaning → List Section → List Watts → ℕ → Meaning
 stacked m ss rs n = extended m (overs m ss n) (take n rs)
@@ -32,7 +32,7 @@ over means g = stacked (means g.below) g.sections g.rooms (here means g)
 
 -- what a path weighs on each place for a section
 abbrev pub section_weights : Meaning → List Section → ℕ → List Watts
-section_weights m ss p = map (λ s. weight_over (ground_in m.ground s) (weights_of m p)) ss
+section_weights m ss p = map (λ s. weight_over (ground_in m.grounds s) (weights_of m p)) ss
 
 -- whether each section has room for q MW on a path
 abbrev pub sections_fit : {G : Type 0} → (G → Meaning) → SectionGrid G → ℕ → Mw → Bool

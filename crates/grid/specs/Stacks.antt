@@ -35,12 +35,12 @@ passes_kept f [] = refl
 passes_kept f (k ∷ ks) =
     elim (cases_Bool (f k)) [ inl e ↦ rw e (and_from (f k) _ e (passes_kept f ks)) | inr e ↦ rw e (passes_kept f ks) ]
 
-grounded : (m : Meaning) (ss : List Section) → all_of (rising_ground m.ground) (map (ground_in m.ground) ss) ≡ true
+grounded : (m : Meaning) (ss : List Section) → all_of (rising_ground m.grounds) (map (ground_in m.grounds) ss) ≡ true
 grounded m [] = refl
 grounded m (s ∷ ss) =
-    let f : ℕ → Bool = λ k. nat_lt k m.ground in
-    and_from (rising_ground m.ground (ground_in m.ground s)) _
-    (and_from (rising_from 0 (ground_in m.ground s)) _ (rising_kept (λ k. nat_lt k m.ground) 0 (gauges_in s) s.rising) (passes_kept (λ k. nat_lt k m.ground) (gauges_in s)))
+    let f : ℕ → Bool = λ k. nat_lt k m.grounds in
+    and_from (rising_ground m.grounds (ground_in m.grounds s)) _
+    (and_from (rising_from 0 (ground_in m.grounds s)) _ (rising_kept (λ k. nat_lt k m.grounds) 0 (gauges_in s) s.rising) (passes_kept (λ k. nat_lt k m.grounds) (gauges_in s)))
     (grounded m ss)
 
 module _ (m : Meaning) (law : Lawful m) (ss : List Section) (rs : List Watts) (count : ℕ)
@@ -79,13 +79,13 @@ module _ (m : Meaning) (law : Lawful m) (ss : List Section) (rs : List Watts) (c
       sym (ap (room_of all) (sym e) ∙ stack.rooms_added (k - gauges_of m) ∙ get_or-take n rs (k - gauges_of m) (as_watts 0) real)
 
   pub weight_at : (p k : ℕ) (d : Section) → gauges_of m ≤ k → k - gauges_of m < n
-      → weight_over (ground_in m.ground (slice_index_or ss (k - gauges_of m) d)) (weights_of m p) ≡ weight_of all p k
+      → weight_over (ground_in m.grounds (slice_index_or ss (k - gauges_of m) d)) (weights_of m p) ≡ weight_of all p k
   weight_at p k d past real =
       let e : gauges_of m + (k - gauges_of m) ≡ k = omega arith in
       let inside : k - gauges_of m < length (overs m ss n) = omega (arith, as_many_overs) in
       let there : k - gauges_of m < length (take n ss) = simp length-take (omega arith) in
-      let o : get_or (overs m ss n) (k - gauges_of m) [] ≡ ground_in m.ground (slice_index_or ss (k - gauges_of m) d) =
-      get_or-map (ground_in m.ground) (take n ss) (k - gauges_of m) d [] there ∙ ap (ground_in m.ground) (get_or-take n ss (k - gauges_of m) d real) in
+      let o : get_or (overs m ss n) (k - gauges_of m) [] ≡ ground_in m.grounds (slice_index_or ss (k - gauges_of m) d) =
+      get_or-map (ground_in m.grounds) (take n ss) (k - gauges_of m) d [] there ∙ ap (ground_in m.grounds) (get_or-take n ss (k - gauges_of m) d real) in
       sym (ap (weight_of all p) (sym e) ∙ stack.weights_added p (k - gauges_of m) inside ∙ ap (λ ks. weight_over ks (weights_of m p)) o)
 
   pub none_at : (k : ℕ) → gauges_of m ≤ k → n ≤ k - gauges_of m → gauges_of all ≤ k
@@ -112,10 +112,10 @@ module _ {G : Type 0} (means : G → Meaning) (g : SectionGrid G) (law : Lawful 
       ∙ room_at below law g.sections g.rooms g.count g.few g.section_places g.room_places g.roomy k past (omega arith)
 
   pub weight_of_section : (p k b : ℕ) (d : Section) → b ≡ gauges_of below → gauges_of below ≤ k → k - b < here means g
-      → weight_over (ground_in below.ground (slice_index_or g.sections (k - b) d)) (weights_of below p) ≡ weight_of (over means g) p k
+      → weight_over (ground_in below.grounds (slice_index_or g.sections (k - b) d)) (weights_of below p) ≡ weight_of (over means g) p k
   weight_of_section p k b d is past real =
       let e : k - b ≡ k - gauges_of below = omega arith in
-      ap (λ i. weight_over (ground_in below.ground (slice_index_or g.sections i d)) (weights_of below p)) e
+      ap (λ i. weight_over (ground_in below.grounds (slice_index_or g.sections i d)) (weights_of below p)) e
       ∙ weight_at below law g.sections g.rooms g.count g.few g.section_places g.room_places g.roomy p k d past (omega arith)
 
   pub room_beyond : (k b : ℕ) → b ≡ gauges_of below → gauges_of below ≤ k → here means g ≤ k - b → as_watts 0 ≡ room_of (over means g) k

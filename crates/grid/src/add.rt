@@ -13,15 +13,15 @@ use rules::fault::{Answer, Fault};
 use rules::power::{Mw, Watts};
 
 // Whether a gauge is not below `least`, and ground.
-fn stands(least: usize, ground: usize, gauge: usize) -> bool
-    ensures { result ≡ (nat_le least gauge && nat_lt gauge ground) }
+fn stands(least: usize, grounds: usize, gauge: usize) -> bool
+    ensures { result ≡ (nat_le least gauge && nat_lt gauge grounds) }
 {
-    least <= gauge && gauge < ground
+    least <= gauge && gauge < grounds
 }
 
 // Whether there are 1 to 16 gauges, each below `ground` and above the one before it.
-fn gauges_fit(ground: usize, gauges: &[u32]) -> Answer
-    ensures { result ≡ gauges_answer ground gauges.now }
+fn gauges_fit(grounds: usize, gauges: &[u32]) -> Answer
+    ensures { result ≡ gauges_answer grounds gauges.now }
 {
     if gauges.len() < 1 || gauges.len() > 16 {
         return Answer::No(0);
@@ -29,7 +29,7 @@ fn gauges_fit(ground: usize, gauges: &[u32]) -> Answer
     let mut least = 0;
     for (i, gauge) in gauges.iter().enumerate() {
         let gauge = *gauge as usize;
-        if !stands(least, ground, gauge) {
+        if !stands(least, grounds, gauge) {
             return Answer::No(i + 1);
         }
         least = gauge + 1;
@@ -59,7 +59,7 @@ impl<G: Grid> SectionGrid<G> {
     fn with_empty_sections(below: G, count: usize) -> SectionGrid<G>
         requires { count ≤ 8 }
         ensures sections { result.count ≡ count }
-        ensures none { count ≡ 0 → over meaning result ≡ meaning below }
+        ensures none { count ≡ 0 → over G.meaning result ≡ G.meaning below }
     {
         SectionGrid {
             below,
@@ -71,7 +71,7 @@ impl<G: Grid> SectionGrid<G> {
 
     // The grid without sections of its own.
     pub fn new(below: G) -> SectionGrid<G>
-        ensures means { over meaning result ≡ meaning below }
+        ensures means { over G.meaning result ≡ G.meaning below }
         ensures sections { result.count ≡ 0 }
     {
         SectionGrid::with_empty_sections(below, 0)
@@ -79,7 +79,7 @@ impl<G: Grid> SectionGrid<G> {
 
     // The section over these gauges with this limit, if it may be added.
     fn check_section(&self, limit: u32, gauges: &[u32]) -> Result<Section, Fault<GridQuestion>>
-        ensures { Checked (section_questions self.now.count (over meaning self.now) gauges.now limit) (Addable meaning self.now gauges.now limit) result }
+        ensures { Checked (section_questions self.now.count (over G.meaning self.now) gauges.now limit) (Addable G.meaning self.now gauges.now limit) result }
     {
         let (below, above) = self.layers();
         if self.count >= 8 || below + above >= 256 {
@@ -105,9 +105,9 @@ impl<G: Grid> SectionGrid<G> {
 
     // One section more, and the number of its gauge.
     fn push_section(&mut self, limit: u32, section: Section) -> usize
-        requires { Addable meaning self.old (gauges_in section) limit section }
-        ensures number { result ≡ gauges_of (over meaning self.old) }
-        ensures more { OneSectionMore meaning self.old self.new (gauges_in section) limit }
+        requires { Addable G.meaning self.old (gauges_in section) limit section }
+        ensures number { result ≡ gauges_of (over G.meaning self.old) }
+        ensures more { OneSectionMore G.meaning self.old self.new (gauges_in section) limit }
     {
         let (below, above) = self.layers();
         self.sections[self.count] = section;
@@ -118,7 +118,7 @@ impl<G: Grid> SectionGrid<G> {
 
     // One section more over these ground gauges, with a limit in MW, and the number of its gauge; or the first question that they fail.
     pub fn add_section(&mut self, limit: u32, gauges: &[u32]) -> Result<usize, Fault<GridQuestion>>
-        ensures { Adds meaning self.old self.new gauges.now limit result }
+        ensures { Adds G.meaning self.old self.new gauges.now limit result }
     {
         match self.check_section(limit, gauges) {
             Ok(section) => Ok(self.push_section(limit, section)),

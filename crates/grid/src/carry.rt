@@ -5,7 +5,7 @@ use crate::grid::Grid;
 
 // Whether every gauge has at least the path's weight left.
 fn has_room_for_one<G: Grid>(grid: &G, path: usize) -> bool
-    ensures { result ≡ has_room (meaning grid.now) path (record { 0 = 1 }) }
+    ensures { result ≡ has_room (G.meaning grid.now) path (record { 0 = 1 }) }
 {
     for gauge in 0..grid.gauges() {
         if grid.room(gauge).0 < grid.weight(path, gauge).0 {
@@ -17,7 +17,7 @@ fn has_room_for_one<G: Grid>(grid: &G, path: usize) -> bool
 
 // Whether a known path can carry 1 MW.
 pub fn carries_one<G: Grid>(grid: &G, path: usize) -> bool
-    ensures { result ≡ carries_one (meaning grid.now) path }
+    ensures { result ≡ carries_one (G.meaning grid.now) path }
 {
     path < grid.paths() && has_room_for_one(grid, path)
 }

@@ -15,7 +15,7 @@ pub trait Grid {
         ensures { result ≡ gauges_of (meaning self.now) };
 
     fn ground_gauges(&self) -> usize
-        ensures { result ≡ (meaning self.now).ground };
+        ensures { result ≡ (meaning self.now).grounds };
 
     fn paths(&self) -> usize
         ensures { result ≡ paths_of (meaning self.now) };

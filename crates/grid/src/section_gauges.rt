@@ -14,15 +14,15 @@ use rules::power::{Mw, Watts};
 impl<G: Grid> SectionGrid<G> {
     // How many paths there are: as many as below.
     fn path_count(&self) -> usize
-        ensures below { result ≡ paths_of (meaning self.now.below) }
-        ensures whole { result ≡ paths_of (over meaning self.now) }
+        ensures below { result ≡ paths_of (G.meaning self.now.below) }
+        ensures whole { result ≡ paths_of (over G.meaning self.now) }
     {
         self.below.paths()
     }
 
     // What a path weighs on each place for a section.
     fn section_weights(&self, path: usize) -> [Watts; 8]
-        ensures { result ≡ section_weights (meaning self.now.below) self.now.sections path }
+        ensures { result ≡ section_weights (G.meaning self.now.below) self.now.sections path }
     {
         let mut weights = [Watts(0); 8];
         for section in 0..8 {
@@ -33,7 +33,7 @@ impl<G: Grid> SectionGrid<G> {
 
     // What a path weighs on each place for a section, if every section has room for so many MW along it.
     fn fitting_weights(&self, path: usize, mw: Mw) -> Option<[Watts; 8]>
-        ensures { MatchOption result (path < paths_of (meaning self.now.below) → has_room (over meaning self.now) path mw ≡ false) (λ ws. (ws ≡ section_weights (meaning self.now.below) self.now.sections path) × (sections_fit meaning self.now path mw ≡ true)) }
+        ensures { MatchOption result (path < paths_of (G.meaning self.now.below) → has_room (over G.meaning self.now) path mw ≡ false) (λ ws. (ws ≡ section_weights (G.meaning self.now.below) self.now.sections path) × (sections_fit G.meaning self.now path mw ≡ true)) }
     {
         let above = self.layers().1;
         let weights = self.section_weights(path);
@@ -50,10 +50,10 @@ impl<G: Grid> SectionGrid<G> {
         weights: &[Watts; 8],
         mw: Mw,
     ) -> Result<(), Fault<GridQuestion>>
-        requires weights { weights.now ≡ section_weights (meaning self.old.below) self.old.sections path }
-        requires path { path < paths_of (meaning self.old.below) }
-        requires enough { sections_fit meaning self.old path mw ≡ true }
-        ensures books { Books (over meaning self.old) (over meaning self.new) path mw result }
+        requires weights { weights.now ≡ section_weights (G.meaning self.old.below) self.old.sections path }
+        requires path { path < paths_of (G.meaning self.old.below) }
+        requires enough { sections_fit G.meaning self.old path mw ≡ true }
+        ensures books { Books (over G.meaning self.old) (over G.meaning self.new) path mw result }
         ensures sections { self.new.count ≡ self.old.count }
     {
         let above = self.layers().1;
@@ -101,7 +101,7 @@ impl<G: Grid> Grid for SectionGrid<G> {
     }
 
     fn book(&mut self, path: usize, mw: Mw) -> Result<(), Fault<GridQuestion>>
-        ensures books { Books (over meaning self.old) (over meaning self.new) path mw result }
+        ensures books { Books (over G.meaning self.old) (over G.meaning self.new) path mw result }
         ensures sections { self.new.count ≡ self.old.count }
     {
         if path >= self.path_count() {

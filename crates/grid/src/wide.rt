@@ -26,7 +26,7 @@ impl Wide {
 }
 
 impl Grid for Wide {
-    ghost meaning = { λ w. record { ground = w.count; rooms = replicate w.count (as_watts 0); weights = [] } };
+    ghost meaning = { λ w. record { grounds = w.count; rooms = replicate w.count (as_watts 0); weights = [] } };
 
     ghost lawful = { λ w.
         let many = length-replicate w.count (as_watts 0) in

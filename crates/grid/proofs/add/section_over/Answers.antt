@@ -18,11 +18,11 @@ filled ks places i done most so_far =
     let e : length ks ≡ i = omega arith in
     ap (λ n. take n places) e ∙ so_far ∙ take_all i ks done
 
-pub invariant-of-result : goal.invariant-of-result
-invariant-of-result c = (
-  c.requires.few,
-  (ap (rising_from 0) (filled c.args.gauges.now c.loop-i.places c.loop-i.i c.loop-i-test.false c.loop-i.auto.i-end c.loop-i.invariant.1) ∙ c.requires.rising, tt),
-)
+pub invariant_of-result : goal.invariant_of-result
+invariant_of-result c = record {
+  few = c.requires.few;
+  rising = ap (rising_from 0) (filled c.args.gauges.now c.loop-i.places c.loop-i.i c.loop-i-test.false c.loop-i.auto.i-end c.loop-i.invariant.1) ∙ c.requires.rising;
+}
 
 pub returns : goal.returns
 returns c = filled c.args.gauges.now c.loop-i.places c.loop-i.i c.loop-i-test.false c.loop-i.auto.i-end c.loop-i.invariant.1

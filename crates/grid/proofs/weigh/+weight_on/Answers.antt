@@ -9,11 +9,11 @@ use Rattle.grid.proofs.weigh.+weight_on.Goals as goal
 abbrev no_passage : Passage
 no_passage = record { leg = 0; enters = record { 0 = 0 }; leaves = record { 0 = 0 } }
 
-pub returns-in-default : goal.returns-in-default
-returns-in-default t c = sym (ap (λ ps. passage_weight ps c.args.leg) (nil_from_length c.args.passages.now (search rules)))
+pub returns-in_default : goal.returns-in_default
+returns-in_default t c = sym (ap (λ ps. passage_weight ps c.args.leg) (nil_from_length c.args.passages.now (search rules)))
 
 pub returns : goal.returns
 returns t c =
     let ps : List Passage = c.args.passages.now in
     let some : 0 < length ps = search rules in
-    c.weight-on.ensures ∙ weight_behind (get_or ps 0 no_passage) _ c.args.leg c.if-first-leg.false ∙ sym (ap (λ xs. passage_weight xs c.args.leg) (first_rest ps no_passage some))
+    c.weight_on.ensures ∙ weight_behind (get_or ps 0 no_passage) _ c.args.leg c.if-first-leg.false ∙ sym (ap (λ xs. passage_weight xs c.args.leg) (first_rest ps no_passage some))

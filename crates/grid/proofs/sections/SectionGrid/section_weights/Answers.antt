@@ -12,11 +12,11 @@ loop-section-preserved g c =
     let i = c.loop-section.section in
     let low : i < length s.sections = omega (arith, s.section_places) in
     let wide : i < length c.loop-section.weights = omega (arith, c.loop-section.invariant.0) in
-    let at = c.section-weight.ensures ∙ sym (get_or-map (λ x. weight_over (ground_in m.ground x) (weights_of m c.args.path)) s.sections i c.index-self-section.result (as_watts 0) low) in (
-      length-set c.loop-section.weights i c.section-weight.result ∙ c.loop-section.invariant.0,
+    let at = c.section_weight.ensures ∙ sym (get_or-map (λ x. weight_over (ground_in m.grounds x) (weights_of m c.args.path)) s.sections i c.index-self-section.result (as_watts 0) low) in (
+      length-set c.loop-section.weights i c.section_weight.result ∙ c.loop-section.invariant.0,
       below_more _ _
           (λ k h. let ne : k ≢ i = omega arith in rw get_or-set_other (c.loop-section.invariant.1 k h))
-          (get_or-set_same c.loop-section.weights i c.section-weight.result (as_watts 0) wide ∙ at),
+          (get_or-set_same c.loop-section.weights i c.section_weight.result (as_watts 0) wide ∙ at),
     )
 
 pub returns : goal.returns

@@ -11,6 +11,6 @@ returns-then-gauge-below g c =
 pub returns : goal.returns
 returns g c =
     let s = c.args.self.now in
-    c.section-weight.ensures
+    c.section_weight.ensures
     ∙ weight_of_section g.G.Grid.meaning s (g.met.G.Grid.lawful s.below) c.args.path c.args.gauge c.layers-below.result.0 c.index-self-gauge.result c.layers-below.ensures.below c.requires
     (omega (arith, c.layers-below.ensures.above, c.if-gauge-below.false))

@@ -4,5 +4,5 @@ use Rattle.grid.proofs.sections.SectionGrid.weight_over.Given as goal
 
 abbrev pub invariant-loop-gauge : goal.invariant-loop-gauge
 invariant-loop-gauge g l =
-    (l.sum ≡ (weight_over (filter (λ k. ltb k (g.G.Grid.meaning l.self.below).ground) (take l.gauge-index l.gauges)) (weights_of (g.G.Grid.meaning l.self.below) l.path)).0)
+    (l.sum ≡ (weight_over (filter (λ k. ltb k (g.G.Grid.meaning l.self.below).grounds) (take l.gauge-index l.gauges)) (weights_of (g.G.Grid.meaning l.self.below) l.path)).0)
     × (l.sum ≤ l.gauge-index * 8000000)
