@@ -1,4 +1,6 @@
 // Network limits, told in one way: the trait that every grid meets, the grid of a sheet's legs, and sections on any grid.
+#![tactic(auto)]
+
 mod add;
 pub mod carry;
 pub mod grid;

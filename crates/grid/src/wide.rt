@@ -1,9 +1,5 @@
-ghost use Rattle.std.specs.Prelude.{◌≤◌, [], replicate};
-ghost use Rattle.std.proofs.lemmas.List.{length-replicate};
-ghost use Rattle.rules.specs.Grids.{as_watts};
-ghost use Rattle.std.proofs.Common.{ap, arith, lit≤};
-ghost use Rattle.rules.specs.declared.power.Watts.{Watts};
-ghost use Rattle.grid.specs.Empties.{no_room, no_weight};
+ghost use Rattle.std.specs.Prelude.{◌≤◌};
+ghost use Rattle.grid.specs.Empties.{empty_grid, empty_lawful};
 
 use crate::grid::Grid;
 use crate::question::GridQuestion;
@@ -26,18 +22,9 @@ impl Wide {
 }
 
 impl Grid for Wide {
-    ghost meaning = { λ w. record { grounds = w.count; rooms = replicate w.count (as_watts 0); weights = [] } };
+    ghost meaning = { λ w. empty_grid w.count };
 
-    ghost lawful = { λ w.
-        let many = length-replicate w.count (as_watts 0) in
-        record {
-          few = omega (arith, many, w.few);
-          ground_first = omega (arith, many);
-          roomy = λ k. omega (arith, ap (λ (r : Watts). r.0) (no_room w.count k));
-          narrow = λ p k. lit≤ tt;
-          light = λ p. no_weight w.count;
-          even = λ p real. absurd (omega arith);
-        } };
+    ghost lawful = { λ w. empty_lawful w.count w.few };
 
     fn gauges(&self) -> usize {
         self.count

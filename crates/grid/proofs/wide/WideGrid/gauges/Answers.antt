@@ -1,5 +1,5 @@
 use Rattle.std.proofs.Common.{sym}
-use lib.ListN.{length-replicate}
+use Rattle.std.proofs.lemmas.List.{length-replicate}
 use Rattle.rules.specs.Grids.{as_watts}
 use Rattle.grid.proofs.wide.WideGrid.gauges.Goals as goal
 
