@@ -2,7 +2,9 @@
 // at the path's sending end.
 #![tactic(auto)]
 
-use anyhow::anyhow;
+mod failure;
+
+use crate::failure::Failure;
 use conversion::bid::bid;
 use conversion::listing::convert;
 use rules::price::Yuan;
@@ -10,20 +12,18 @@ use std::env;
 use std::io::Read;
 
 // The arguments after the program's name, as bids.
-fn bids(rt: &HostRuntime) -> anyhow::Result<Vec<Yuan>> {
+fn bids(rt: &HostRuntime) -> Result<Vec<Yuan>, Failure> {
     let mut bids = Vec::new(rt.alloc());
     for word in env::args(rt)?.skip(1) {
         let Some(yuan) = bid(word.as_bytes()) else {
-            return Err(anyhow!(
-                "'{word}' is no bid: write a whole number of yuan from -1000 to 10000"
-            ));
+            return Err(Failure::Bid(word));
         };
         bids.push(yuan)?;
     }
     Ok(bids)
 }
 
-fn run(rt: &HostRuntime) -> anyhow::Result<()> {
+fn run(rt: &HostRuntime) -> Result<(), Failure> {
     let heap = rt.alloc();
     let bids = bids(rt)?;
     let mut text = Vec::new(heap);
@@ -33,6 +33,6 @@ fn run(rt: &HostRuntime) -> anyhow::Result<()> {
     Ok(())
 }
 
-fn main(rt: HostRuntime) -> anyhow::Result<()> {
+fn main(rt: HostRuntime) -> Result<(), Failure> {
     run(&rt)
 }

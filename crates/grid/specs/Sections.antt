@@ -9,7 +9,7 @@ use Rattle.grid.specs.declared.sections.SectionGrid.{SectionGrid}
 abbrev pub gauges_in : Section → List ℕ
 gauges_in s = take s.count s.gauges
 
--- A type cannot say that its sections fit the grid below it. So a gauge that is not ground there, and a section that would be the 257th gauge,
+-- The type does not say that its sections fit the grid below it. So a gauge that is not ground there, and a section that would be the 257th gauge,
 -- count for nothing; adding a section lets neither in, and no grid changes its counts.
 abbrev pub ground_in : ℕ → Section → List ℕ
 ground_in grounds s = filter (λ k. nat_lt k grounds) (gauges_in s)

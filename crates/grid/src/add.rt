@@ -19,7 +19,7 @@ fn stands(least: usize, grounds: usize, gauge: usize) -> bool
     least <= gauge && gauge < grounds
 }
 
-// Whether there are 1 to 16 gauges, each below `ground` and above the one before it.
+// Whether there are 1 to 16 gauges, each below `grounds` and above the one before it.
 fn gauges_fit(grounds: usize, gauges: &[u32]) -> Answer
     ensures { result ≡ gauges_answer grounds gauges.now }
 {

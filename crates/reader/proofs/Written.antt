@@ -21,7 +21,7 @@ use Rattle.reader.specs.declared.fault.CaseFault.{CaseFault}
 use Rattle.reader.specs.declared.fault.Question.{Question}
 use Rattle.reader.specs.declared.stage.Stage.{Stage}
 
--- the figures of a short_figures line
+-- the figures of a line of short figures
 small : (n : ℕ) → ltb n 1000000000 ≡ true → n < 2 ^ 64
 small n h = omega (arith, ltb-true n 1000000000 h)
 

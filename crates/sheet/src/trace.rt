@@ -1,5 +1,5 @@
 ghost use Rattle.std.specs.Prelude.{◌≡◌, ◌*◌, ◌≤◌, true, map, length, take};
-ghost use Rattle.rules.specs.Convert.{entering, leaving, one_mw, passed, landed as landed-after, charged as charged-along};
+ghost use Rattle.rules.specs.Convert.{entering, leaving, one_mw, passed, landed as landed_after, charged as charged_along};
 ghost use Rattle.rules.specs.Network.{all_entered, stretches, routed};
 ghost use Rattle.sheet.specs.Views.{legs_of, path_legs, route_of};
 
@@ -16,7 +16,7 @@ const SENT: Watts = Watts(1_000_000);
 // What leaves the last of the legs.
 fn landed(all: &[Leg], entering: Watts, legs: &[u32]) -> Watts
     requires { all_entered (length all.now) legs.now ≡ true }
-    ensures { result.0 ≡ landed-after entering.0 (stretches (legs_of all.now) legs.now) }
+    ensures { result.0 ≡ landed_after entering.0 (stretches (legs_of all.now) legs.now) }
 {
     match legs {
         [] => entering,
@@ -36,7 +36,7 @@ fn charged(all: &[Leg], entering: Watts, legs: &[u32]) -> u128
     requires entered { all_entered (length all.now) legs.now ≡ true }
     requires few { length legs.now ≤ 8 }
     requires small { entering.0 ≤ 1000000 }
-    ensures value { result ≡ charged-along entering.0 (stretches (legs_of all.now) legs.now) }
+    ensures value { result ≡ charged_along entering.0 (stretches (legs_of all.now) legs.now) }
     ensures bound { result ≤ length legs.now * 1000000000000 }
 {
     let [first, rest @ ..] = legs else {

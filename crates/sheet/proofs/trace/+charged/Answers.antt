@@ -28,14 +28,14 @@ charged-requires t c =
     )
 
 -- the tariff on what leaves the first leg
-on-first : (t : ℕ) (c : goal.After-charged t) → c.leg_charge.result ≤ 1000000 * 1000000
-on-first t c =
+on_first : (t : ℕ) (c : goal.After-charged t) → c.leg_charge.result ≤ 1000000 * 1000000
+on_first t c =
     let a : c.leg_at-leg.result.tariff.thousandths ≤ 1000000 = search rules in
     let b : passed c.leg_at-leg.result.rate.millionths c.args.entering.0 ≤ 1000000 = omega (arith, c.leaves.ensures.value, c.leaves.ensures.bound, c.requires.small) in
     omega (arith, c.leg_charge.ensures, mul-le-mul a b)
 
 pub overflow_add-result : goal.overflow_add-result
-overflow_add-result t c = omega (arith, on-first t c, c.charged.ensures.bound, rest_length c.args.legs.now, c.requires.few)
+overflow_add-result t c = omega (arith, on_first t c, c.charged.ensures.bound, rest_length c.args.legs.now, c.requires.few)
 
 pub returns : goal.returns
 returns t c =
@@ -49,5 +49,5 @@ returns t c =
           ∙ ap (λ n. c.leg_at-leg.result.tariff.thousandths * passed c.leg_at-leg.result.rate.millionths e + n) (c.charged.ensures.value ∙ ap (λ y. charged y (stretches ls (rest xs))) c.leaves.ensures.value)
           ∙ ap (λ (y : DrawnLeg). y.tariff * passed y.rate e + charged (passed y.rate e) (stretches ls (rest xs))) c.leg_at-leg.ensures
           ∙ sym (at_first (λ ks. charged e (stretches ls ks)) xs some);
-      bound = omega (arith, on-first t c, c.charged.ensures.bound, rest_length xs);
+      bound = omega (arith, on_first t c, c.charged.ensures.bound, rest_length xs);
     }

@@ -37,9 +37,9 @@ returns c =
     let i = c.loop-i.i in
     let ps = c.loop-i.passages in
     let e = c.loop-i.enters.0 in
-    let at-end : i ≡ length ks = omega (arith, c.loop-i-test.false, c.loop-i.auto.i-end) in
+    let at_end : i ≡ length ks = omega (arith, c.loop-i-test.false, c.loop-i.auto.i-end) in
     record {
-      legs = ap (λ n. map (λ (x : Passage). x.leg) (take n ps)) (sym at-end) ∙ c.loop-i.invariant.1 ∙ take_all i ks c.loop-i-test.false;
-      enters = all_done (λ (x : Passage). x.enters.0) ps i (length ks) _ _ at-end (at_drop_all (λ js. entering e (stretches ls js)) ks i c.loop-i-test.false) c.loop-i.invariant.2;
-      leaves = all_done (λ (x : Passage). x.leaves.0) ps i (length ks) _ _ at-end (at_drop_all (λ js. leaving e (stretches ls js)) ks i c.loop-i-test.false) c.loop-i.invariant.3;
+      legs = ap (λ n. map (λ (x : Passage). x.leg) (take n ps)) (sym at_end) ∙ c.loop-i.invariant.1 ∙ take_all i ks c.loop-i-test.false;
+      enters = all_done (λ (x : Passage). x.enters.0) ps i (length ks) _ _ at_end (at_drop_all (λ js. entering e (stretches ls js)) ks i c.loop-i-test.false) c.loop-i.invariant.2;
+      leaves = all_done (λ (x : Passage). x.leaves.0) ps i (length ks) _ _ at_end (at_drop_all (λ js. leaving e (stretches ls js)) ks i c.loop-i-test.false) c.loop-i.invariant.3;
     }

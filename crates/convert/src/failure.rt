@@ -1,0 +1,42 @@
+use std::alloc::{AllocError, AllocFailed};
+use std::{fmt, io};
+
+// Why the program gives up, in words for the person who ran it.
+#[derive(Drop)]
+pub(crate) enum Failure {
+    // An argument that is no bid.
+    Bid(String),
+    Memory(AllocError),
+    Io(io::Error),
+}
+
+impl fmt::Debug for Failure {
+    fn fmt<W: fmt::Write>(&self, f: &mut fmt::Formatter<W>) -> fmt::Result {
+        match self {
+            Failure::Bid(word) => write!(
+                f,
+                "'{word}' is no bid: write a whole number of yuan from -1000 to 10000"
+            ),
+            Failure::Memory(error) => write!(f, "{error}"),
+            Failure::Io(error) => write!(f, "{error}"),
+        }
+    }
+}
+
+impl From<AllocError> for Failure {
+    fn from(error: AllocError) -> Failure {
+        Failure::Memory(error)
+    }
+}
+
+impl<T: Drop> From<AllocFailed<T>> for Failure {
+    fn from(failed: AllocFailed<T>) -> Failure {
+        Failure::Memory(AllocError::from(failed))
+    }
+}
+
+impl From<io::Error> for Failure {
+    fn from(error: io::Error) -> Failure {
+        Failure::Io(error)
+    }
+}
