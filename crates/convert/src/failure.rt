@@ -1,3 +1,7 @@
+ghost use Rattle.std.specs.Prelude.{◌≡◌, alloc_error};
+ghost use Rattle.convert.specs.declared.failure.Failure.TheVariants.{Memory, Io};
+ghost use Rattle.convert.specs.Messages.{message_of};
+
 use std::alloc::{AllocError, AllocFailed};
 use std::{fmt, io};
 
@@ -11,6 +15,8 @@ pub(crate) enum Failure {
 }
 
 impl fmt::Debug for Failure {
+    ghost debug_output = { message_of };
+
     fn fmt<W: fmt::Write>(&self, f: &mut fmt::Formatter<W>) -> fmt::Result {
         match self {
             Failure::Bid(word) => write!(
@@ -24,18 +30,24 @@ impl fmt::Debug for Failure {
 }
 
 impl From<AllocError> for Failure {
+    ghost from_gives = { λ error failure. failure ≡ Memory error };
+
     fn from(error: AllocError) -> Failure {
         Failure::Memory(error)
     }
 }
 
 impl<T: Drop> From<AllocFailed<T>> for Failure {
+    ghost from_gives = { λ _ failure. failure ≡ Memory alloc_error };
+
     fn from(failed: AllocFailed<T>) -> Failure {
         Failure::Memory(AllocError::from(failed))
     }
 }
 
 impl From<io::Error> for Failure {
+    ghost from_gives = { λ error failure. failure ≡ Io error };
+
     fn from(error: io::Error) -> Failure {
         Failure::Io(error)
     }
