@@ -1,15 +1,13 @@
 -- What the first no among questions, and the first item that fails a test, mean.
-use Rattle.std.specs.Prelude.{◌≡◌, ℕ, ◌+◌, ◌-◌, ◌<◌, ◌≤◌, Bool, true, false, List, ◌∷◌, ◌++◌, length, take, Some, None, slice_index_or}
+use Rattle.std.specs.Prelude.{◌≡◌, ℕ, ◌+◌, ◌-◌, ◌<◌, ◌≤◌, Bool, true, false, List, ◌∷◌, ◌++◌, length, take, Some, None, Ok, Err, slice_index_or}
 use Rattle.rules.specs.Lists.{all_of}
-use Rattle.rules.specs.Questions.{Asked, each_from, first_no}
+use Rattle.rules.specs.Questions.{Answer, Asked, each_from, first_no}
 use Rattle.rules.specs.declared.fault.Fault.{Fault}
-use Rattle.rules.specs.declared.fault.Answer.{Answer}
-use Rattle.rules.specs.declared.fault.Answer.TheVariants.{Yes, No}
 
 -- an answer that is yes, and questions that are all answered so
 abbrev pub is_yes : Answer → Bool
-is_yes Yes = true
-is_yes (No p) = false
+is_yes (Ok done) = true
+is_yes (Err p) = false
 
 abbrev pub all_yes : {Q : Type 0} → List (Asked Q) → Bool
 all_yes qs = all_of (λ a. is_yes a.answer) qs
@@ -22,7 +20,7 @@ pub record FirstNo {Q : Type 0} (qs : List (Asked Q)) (f : Fault Q) : Type 0 whe
   pub splits : qs ≡ before ++ (here ∷ after)
   pub fine_before : all_yes before ≡ true
   pub the_question : here.question ≡ f.question
-  pub the_place : here.answer ≡ No f.place
+  pub the_place : here.answer ≡ Err f.place
 
 -- item i, counted from 0, is the first that fails the test f
 pub record FailsFirst {A : Type 0} (f : A → Bool) (xs : List A) (i : ℕ) : Type 0 where
@@ -44,7 +42,7 @@ pub record QuestionsStand (Q A : Type 0) : Type 0 where
   pub none_from : (qs : List (Asked Q)) → all_yes qs ≡ true → first_no qs ≡ None
   pub some : (qs : List (Asked Q)) (f : Fault Q) → first_no qs ≡ Some f → FirstNo qs f
   pub some_from : (qs : List (Asked Q)) (f : Fault Q) → FirstNo qs f → first_no qs ≡ Some f
-  pub yes : (k : ℕ) (f : A → Bool) (xs : List A) → each_from k f xs ≡ Yes → all_of f xs ≡ true
-  pub yes_from : (k : ℕ) (f : A → Bool) (xs : List A) → all_of f xs ≡ true → each_from k f xs ≡ Yes
-  pub no : (k : ℕ) (f : A → Bool) (xs : List A) (p : ℕ) → each_from k f xs ≡ No p → (k ≤ p) × FailsFirst f xs (p - k)
-  pub no_from : (k : ℕ) (f : A → Bool) (xs : List A) (i : ℕ) → FailsFirst f xs i → each_from k f xs ≡ No (k + i)
+  pub yes : (k : ℕ) (f : A → Bool) (xs : List A) → each_from k f xs ≡ Ok tt → all_of f xs ≡ true
+  pub yes_from : (k : ℕ) (f : A → Bool) (xs : List A) → all_of f xs ≡ true → each_from k f xs ≡ Ok tt
+  pub no : (k : ℕ) (f : A → Bool) (xs : List A) (p : ℕ) → each_from k f xs ≡ Err p → (k ≤ p) × FailsFirst f xs (p - k)
+  pub no_from : (k : ℕ) (f : A → Bool) (xs : List A) (i : ℕ) → FailsFirst f xs i → each_from k f xs ≡ Err (k + i)

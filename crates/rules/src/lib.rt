@@ -5,6 +5,7 @@ pub mod charge;
 pub mod claim;
 pub mod fault;
 pub mod laws;
+pub mod limit;
 pub mod power;
 pub mod price;
 pub mod rate;

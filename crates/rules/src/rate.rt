@@ -1,4 +1,4 @@
-ghost use Rattle.std.specs.Prelude.{◌≡◌, ◌≤◌};
+ghost use Rattle.std.specs.Prelude.{◌≡◌, ◌<◌, ◌≤◌, MatchOption};
 ghost use Rattle.rules.specs.Convert.{lost, passed};
 
 use crate::power::Watts;
@@ -10,7 +10,18 @@ pub struct Rate {
     ghost within: { millionths ≤ 200000 },
 }
 
+// A type of its own beside `Limit`, for its unit (limit.rt).
 impl Rate {
+    // The rate of so many millionths; none where that is out of range.
+    pub fn new(millionths: u32) -> Option<Rate>
+        ensures { MatchOption result (200000 < millionths) (λ x. x.millionths ≡ millionths) }
+    {
+        if millionths > 200_000 {
+            return None;
+        }
+        Some(Rate { millionths })
+    }
+
     // The W lost of what enters, rounded up.
     fn loss(self, entering: Watts) -> Watts
         ensures value { result.0 ≡ lost self.millionths entering.0 }
