@@ -1,23 +1,25 @@
 -- What a sheet keeps when something more is entered.
-use Rattle.std.proofs.Common.{◌≡◌, ℕ, ◌+◌, ◌<◌, true, eqb, List, [], ◌∷◌, ◌++◌, map, length, get_or, sym, refl, ap, ◌∙◌, subst, arith}
+use Rattle.std.proofs.Common.{◌≡◌, ℕ, ◌+◌, ◌<◌, true, eqb, List, [], ◌∷◌, ◌++◌, map, length, get_or, vec_items, sym, refl, ap, ◌∙◌, subst, arith}
+use Rattle.std.specs.List.{AllZip}
 use Rattle.std.specs.Str.{bytes_eq}
+use Rattle.std.proofs.lemmas.List.Elements.{same_from_all_zip}
 use Rattle.std.proofs.lemmas.Slice.Eq.{bytes_eq-Decides}
 use Rattle.std.proofs.lemmas.Bool.{and_parts, and_from, eqb-true, eq-eqb}
 use Rattle.std.proofs.lemmas.List.{map_push, length-map, get_or-map}
 use Rattle.rules.specs.Lists.{all_of}
-use Rattle.rules.specs.Network.{DrawnNode, DrawnLeg, Drawing, Route, same_route, joins_all, joins, path_holds, routed, stretch_at, stretches, one_to_eight, all_entered}
+use Rattle.rules.specs.Network.{DrawnNode, DrawnLeg, Drawing, Route, same_route, joins_all, joins, path_holds, routed, stretch_at, stretches, one_to_eight, all_entered, leg_at}
 use Rattle.rules.specs.ConvertLaws.{Chain, Converts}
 use Rattle.rules.proofs.Chains.{converts}
 use Rattle.rules.proofs.Alls.{all_of_at, all_of_push, all_of_mono}
 use Rattle.rules.proofs.Networks.{held, holds_with_node, holds_with_leg, routed_kept, joins_more}
-use Rattle.sheet.proofs.Chaining.{leg_read}
 use Rattle.sheet.proofs.Passing.{few_legs_lem}
 use Rattle.sheet.proofs.Tracing.{legal_all}
-use Rattle.sheet.specs.Sheets.{LegRead, PathRead}
-use Rattle.sheet.specs.Views.{node_of, leg_of, nodes_of, legs_of, path_legs, route_of, is_sound}
+use Rattle.sheet.specs.Sheets.{drawing, LegsRead, PathsRead}
+use Rattle.sheet.specs.Views.{node_of, leg_of, nodes_of, legs_of, path_legs, route_of, is_sound, passages_of}
 use Rattle.sheet.specs.declared.node.Node.{Node}
 use Rattle.sheet.specs.declared.leg.Leg.{Leg}
 use Rattle.sheet.specs.declared.path.Path.{Path}
+use Rattle.sheet.specs.declared.sheet.Sheet.{Sheet}
 
 abbrev pub drawn : List DrawnNode → List DrawnLeg → List (List ℕ) → Drawing
 drawn ns ls ps = record { nodes = ns; legs = ls; paths = ps }
@@ -98,29 +100,54 @@ module _ (ns : List Node) (ls : List Leg) (ps : List Path) (m : ℕ) (many : m �
   pub path_keeps_paths : (p : Path) → path_holds (nodes_of ns) (legs_of ls) (path_legs p) ≡ true → route_of p ≡ routed (legs_of ls) (path_legs p) → all_of (is_sound (nodes_of ns) (legs_of ls)) (ps ++ (p ∷ [])) ≡ true
   path_keeps_paths p h e = all_of_push (is_sound (nodes_of ns) (legs_of ls)) ps p sound (sound_from (nodes_of ns) (legs_of ls) p h e)
 
-pub leg_read_back : (ns : List DrawnNode) (ls : List Leg) (ps : List (List ℕ)) → joins_all (length ns) (legs_of ls) ≡ true → (k : ℕ) (l : Leg) → k < length (legs_of ls) → l ≡ get_or ls k l → LegRead (drawn ns (legs_of ls) ps) k l
-leg_read_back ns ls ps j k l h e =
-    let figures = leg_read ls k l (omega (arith, length-map ls leg_of)) e in
-    record {
-      entered = h;
-      figures = figures;
-      joined = all_of_at (joins (length ns)) (legs_of ls) k _ j h;
-      apart = λ same. l.apart (ap (λ (x : DrawnLeg). x.from) figures ∙ same ∙ sym (ap (λ (x : DrawnLeg). x.to) figures));
-    }
+-- what is read of all legs and of all paths, through a slice that lends them
+legs_read : (ns : List DrawnNode) (ls slice : List Leg) (ps : List (List ℕ)) → slice ≡ ls → joins_all (length ns) (legs_of ls) ≡ true → LegsRead (drawn ns (legs_of ls) ps) slice
+legs_read ns ls slice ps e j =
+    rw e (record {
+      figures = refl;
+      each = λ k l h.
+          let real : k < length (legs_of ls) = omega (arith, length-map ls leg_of) in
+          let x = get_or ls k l in
+          let figures : leg_of x ≡ leg_at (legs_of ls) k = sym (get_or-map leg_of ls k l _ h) in
+          record {
+            entered = real;
+            figures = figures;
+            joined = all_of_at (joins (length ns)) (legs_of ls) k _ j real;
+            apart = λ same. x.apart (ap (λ (y : DrawnLeg). y.from) figures ∙ same ∙ sym (ap (λ (y : DrawnLeg). y.to) figures));
+          };
+    })
 
-pub path_read : (ns : List DrawnNode) (ls : List Leg) (ps : List Path) → all_of (is_sound ns (legs_of ls)) ps ≡ true → (k : ℕ) (p : Path) → k < length (map path_legs ps) → p ≡ get_or ps k p → PathRead (drawn ns (legs_of ls) (map path_legs ps)) k p
-path_read ns ls ps h k p l e =
-    let ds = legs_of ls in
-    let inside : k < length ps = omega (arith, length-map ps path_legs) in
-    let legs : path_legs p ≡ get_or (map path_legs ps) k [] = ap path_legs e ∙ sym (get_or-map path_legs ps k p [] inside) in
-    let sound : is_sound ns ds p ≡ true = ap (is_sound ns ds) e ∙ all_of_at (is_sound ns ds) ps k p h inside in
-    let parts = sound_parts ns ds p sound in
-    let path = held ns ds (path_legs p) parts.0 in
-    let converted = converts (stretches ds (path_legs p)) (chain_of ls (path_legs p) path.some path.entered) in
-    record {
-      entered = l;
-      legs = legs;
-      a_path = ap (path_holds ns ds) (sym legs) ∙ parts.0;
-      route = parts.1 ∙ ap (routed ds) legs;
-      converts = subst (λ ks. Converts (stretches ds ks)) legs converted;
-    }
+paths_read : (ns : List DrawnNode) (ls : List Leg) (ps slice : List Path) → slice ≡ ps → all_of (is_sound ns (legs_of ls)) ps ≡ true → PathsRead (drawn ns (legs_of ls) (map path_legs ps)) slice
+paths_read ns ls ps slice e sound =
+    rw e (record {
+      legs = refl;
+      each = λ k p h.
+          let ds = legs_of ls in
+          let x = get_or ps k p in
+          let legs : path_legs x ≡ get_or (map path_legs ps) k [] = sym (get_or-map path_legs ps k p [] h) in
+          let parts = sound_parts ns ds x (all_of_at (is_sound ns ds) ps k p sound h) in
+          let path = held ns ds (path_legs x) parts.0 in
+          record {
+            entered = omega (arith, length-map ps path_legs);
+            legs = legs;
+            a_path = ap (path_holds ns ds) (sym legs) ∙ parts.0;
+            route = parts.1 ∙ ap (routed ds) legs;
+            converts = subst (λ ks. Converts (stretches ds ks)) legs (converts (stretches ds (path_legs x)) (chain_of ls (path_legs x) path.some path.entered));
+          };
+    })
+
+pub sheet_legs : (s : Sheet) (slice : List Leg) → slice ≡ vec_items s.legs → LegsRead (drawing s) slice
+sheet_legs s slice lent =
+    let ns = vec_items s.nodes in
+    let joined = ap (λ n. joins_all n (legs_of (vec_items s.legs))) (sym (s.nodes.ok.0 ∙ sym (length-map ns node_of))) ∙ s.joined in
+    legs_read (nodes_of ns) (vec_items s.legs) slice (map path_legs (vec_items s.paths)) lent joined
+
+pub sheet_paths : (s : Sheet) (slice : List Path) → slice ≡ vec_items s.paths → PathsRead (drawing s) slice
+sheet_paths s slice lent = paths_read (nodes_of (vec_items s.nodes)) (vec_items s.legs) (vec_items s.paths) slice lent s.sound
+
+-- a path with the ends, figures and passages of another
+pub copied : (p q : Path) → q.from ≡ p.from → q.to ≡ p.to → q.yields ≡ p.yields → q.charge ≡ p.charge → AllZip (λ x y. y ≡ x) p.passages.items q.passages.items
+    → (route_of q ≡ route_of p) × (passages_of q ≡ passages_of p)
+copied p q from to yields charge each =
+    let same : q.passages.items ≡ p.passages.items = same_from_all_zip (λ x y. y ≡ x) p.passages.items q.passages.items each (λ x y h. h) in
+    (cc, same)

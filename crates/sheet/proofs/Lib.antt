@@ -1,4 +1,3 @@
-pub mod Firsts
 pub mod Chaining
 pub mod Tracing
 pub mod Keeping

@@ -1,10 +1,8 @@
 -- What is asked of a node, a leg and a path that are to be entered on a drawing.
-use Rattle.std.specs.Prelude.{ℕ, ◌+◌, Bool, true, false, not, ◌&&◌, ltb, List, [], ◌∷◌, ◌++◌, length, ◌==◌, nat_le, nat_lt}
+use Rattle.std.specs.Prelude.{ℕ, ◌+◌, Bool, true, false, not, ◌&&◌, ltb, List, [], ◌∷◌, ◌++◌, length, Ok, Err, ◌==◌, nat_le, nat_lt}
 use Rattle.rules.specs.Lists.{has}
 use Rattle.rules.specs.Network.{DrawnNode, DrawnLeg, Drawing, node_at, leg_at, start_of, end_of, may_trade, one_to_eight}
-use Rattle.rules.specs.Questions.{Asked, asked, answered, each_from}
-use Rattle.rules.specs.declared.fault.Answer.{Answer}
-use Rattle.rules.specs.declared.fault.Answer.TheVariants.{Yes, No}
+use Rattle.rules.specs.Questions.{Answer, Asked, asked, answered, each_from}
 use Rattle.sheet.specs.declared.question.SheetQuestion.{SheetQuestion}
 use Rattle.sheet.specs.declared.question.SheetQuestion.TheVariants.{NodeCount, NodeFigures, LegCount, LegNodes, LegFigures, PathCount, PathLegs, PathChain, PathNodes, PathEnds}
 
@@ -46,20 +44,20 @@ with_leg d l = record { nodes = d.nodes; legs = d.legs ++ (l ∷ []); paths = d.
 
 -- 1 to 8 legs, each of them entered; where the count offends there is no place
 abbrev pub legs_answer : ℕ → List ℕ → Answer
-legs_answer n ks = elim (one_to_eight ks) [ true ↦ each_from 1 (λ k. ltb k n) ks | false ↦ No 0 ]
+legs_answer n ks = elim (one_to_eight ks) [ true ↦ each_from 1 (λ k. ltb k n) ks | false ↦ Err 0 ]
 
 -- each leg starts where the last ended; the place is that of the first that does not. The legs stand from place i on, after one that ended at n
 abbrev pub chain_from : List DrawnLeg → ℕ → ℕ → List ℕ → Answer
-chain_from ls n i [] = Yes
-chain_from ls n i (k ∷ ks) = elim ((leg_at ls k).from == n) [ true ↦ chain_from ls (leg_at ls k).to (i + 1) ks | false ↦ No i ]
+chain_from ls n i [] = Ok tt
+chain_from ls n i (k ∷ ks) = elim ((leg_at ls k).from == n) [ true ↦ chain_from ls (leg_at ls k).to (i + 1) ks | false ↦ Err i ]
 
 abbrev pub chain_answer : List DrawnLeg → List ℕ → Answer
 chain_answer ls ks = chain_from ls (start_of ls ks) 1 ks
 
 -- no node twice; the place is that of the first leg that ends at a node met before
 abbrev pub nodes_from : List DrawnLeg → List ℕ → ℕ → List ℕ → Answer
-nodes_from ls met i [] = Yes
-nodes_from ls met i (k ∷ ks) = elim (has (leg_at ls k).to met) [ true ↦ No i | false ↦ nodes_from ls (met ++ ((leg_at ls k).to ∷ [])) (i + 1) ks ]
+nodes_from ls met i [] = Ok tt
+nodes_from ls met i (k ∷ ks) = elim (has (leg_at ls k).to met) [ true ↦ Err i | false ↦ nodes_from ls (met ++ ((leg_at ls k).to ∷ [])) (i + 1) ks ]
 
 abbrev pub nodes_answer : List DrawnLeg → List ℕ → Answer
 nodes_answer ls ks = nodes_from ls (start_of ls ks ∷ []) 1 ks

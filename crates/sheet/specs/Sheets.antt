@@ -50,6 +50,11 @@ pub record LegRead (d : Drawing) (k : ℕ) (l : Leg) : Type 0 where
   pub joined : joins (length d.nodes) (leg_at d.legs k) ≡ true
   pub apart : (leg_at d.legs k).from ≡ (leg_at d.legs k).to → ⊥
 
+-- what is read of all legs, in the order of their numbers
+pub record LegsRead (d : Drawing) (ls : List Leg) : Type 0 where
+  pub figures : legs_of ls ≡ d.legs
+  pub each : (k : ℕ) (l : Leg) → k < length ls → LegRead d k (slice_index_or ls k l)
+
 -- what is read of path k: an entered path, whose legs, ends, yield, charge and flows are those of the rules, which convert a MW sent along its legs
 pub record PathRead (d : Drawing) (k : ℕ) (p : Path) : Type 0 where
   pub entered : k < length d.paths
@@ -57,3 +62,8 @@ pub record PathRead (d : Drawing) (k : ℕ) (p : Path) : Type 0 where
   pub a_path : path_holds d.nodes d.legs (slice_index_or d.paths k []) ≡ true
   pub route : route_of p ≡ routed d.legs (slice_index_or d.paths k [])
   pub converts : Converts (stretches d.legs (slice_index_or d.paths k []))
+
+-- what is read of all paths, in the order of their numbers
+pub record PathsRead (d : Drawing) (ps : List Path) : Type 0 where
+  pub legs : map path_legs ps ≡ d.paths
+  pub each : (k : ℕ) (p : Path) → k < length ps → PathRead d k (slice_index_or ps k p)

@@ -1,103 +1,100 @@
-ghost use Rattle.std.specs.Prelude.{◌≡◌, ◌+◌, ◌<◌, ◌≤◌, true, ◌∷◌, length};
+ghost use Rattle.std.specs.Prelude.{◌≡◌, ◌<◌, ◌≤◌, true, Ok, Err, length, slice_index, IfOk, MatchResult};
 ghost use Rattle.rules.specs.Lists.{has};
-ghost use Rattle.rules.specs.Network.{all_entered, leg_at, start_of, end_after, ends_of};
-ghost use Rattle.sheet.specs.Asks.{legs_answer, chain_from, nodes_answer};
+ghost use Rattle.rules.specs.Network.{all_entered, leg_at, start_of, end_of};
+ghost use Rattle.sheet.specs.Asks.{legs_answer, chain_answer, nodes_answer};
 ghost use Rattle.sheet.specs.Views.{leg_of, legs_of};
 
 use crate::leg::Leg;
-use rules::fault::Answer;
+use arrayvec::ArrayVec;
 
-// Whether there are 1 to 8 leg numbers, each below `count`.
-pub(crate) fn legs_entered(count: usize, legs: &[u32]) -> Answer
-    ensures { result ≡ legs_answer count legs.now }
+// A row of 1 to 8 legs, told by their numbers among all that are entered.
+#[derive(Clone, Copy, Debug)]
+pub(crate) struct Chain<'a> {
+    pub(crate) all: &'a [Leg],
+    pub(crate) numbers: &'a [u32],
+    ghost some: { 1 ≤ length numbers.now },
+    ghost few: { length numbers.now ≤ 8 },
+    ghost entered: { all_entered (length all.now) numbers.now ≡ true },
+}
+
+// Whether a node was met before.
+#[tactic(auto, using(crate::proofs::Chaining::met_before))]
+fn was_met(met: &ArrayVec<usize, 9>, node: usize) -> bool
+    ensures { result ≡ has node met.now.items }
 {
-    if legs.len() < 1 || legs.len() > 8 {
-        return Answer::No(0);
-    }
-    for (i, leg) in legs.iter().enumerate() {
-        if *leg as usize >= count {
-            return Answer::No(i + 1);
+    met.as_slice().contains(&node)
+}
+
+impl<'a> Chain<'a> {
+    // The chain of these legs, if there are 1 to 8 and each is entered; or else the place of the first that is not, 0 where their
+    // count offends.
+    pub(crate) fn new(all: &'a [Leg], numbers: &'a [u32]) -> Result<Chain<'a>, usize>
+        ensures answer { MatchResult result (λ _. legs_answer (length all.now) numbers.now ≡ Ok tt) (λ place. legs_answer (length all.now) numbers.now ≡ Err place) }
+        ensures all { IfOk result (λ c. c.all.now ≡ all.now) }
+        ensures numbers { IfOk result (λ c. c.numbers.now ≡ numbers.now) }
+    {
+        if numbers.is_empty() || numbers.len() > 8 {
+            return Err(0);
         }
-    }
-    Answer::Yes
-}
-
-pub(crate) fn leg_at(all: &[Leg], number: u32) -> Leg
-    requires { number < length all.now }
-    ensures { leg_of result ≡ leg_at (legs_of all.now) number }
-{
-    all[number as usize]
-}
-
-// The node where a chain starts.
-pub(crate) fn start(all: &[Leg], legs: &[u32]) -> usize
-    requires { all_entered (length all.now) legs.now ≡ true }
-    ensures { result ≡ start_of (legs_of all.now) legs.now }
-{
-    match legs {
-        [] => 0,
-        [first, ..] => leg_at(all, *first).from,
-    }
-}
-
-// The node where a chain ends that comes after `node`.
-pub(crate) fn end(all: &[Leg], node: usize, legs: &[u32]) -> usize
-    requires { all_entered (length all.now) legs.now ≡ true }
-    ensures { result ≡ end_after (legs_of all.now) node legs.now }
-{
-    match legs {
-        [] => node,
-        [first, rest @ ..] => end(all, leg_at(all, *first).to, rest),
-    }
-}
-
-// Whether each leg starts where the last ended; the first stands at `place` and is to start at `node`.
-pub(crate) fn chained(all: &[Leg], node: usize, place: usize, legs: &[u32]) -> Answer
-    requires entered { all_entered (length all.now) legs.now ≡ true }
-    requires few { place + length legs.now ≤ 9 }
-    ensures { result ≡ chain_from (legs_of all.now) node place legs.now }
-{
-    let [first, rest @ ..] = legs else {
-        return Answer::Yes;
-    };
-    let leg = leg_at(all, *first);
-    if leg.from != node {
-        return Answer::No(place);
-    }
-    chained(all, leg.to, place + 1, rest)
-}
-
-// Whether one of the legs ends at `node`.
-fn ends_at(all: &[Leg], node: usize, legs: &[u32]) -> bool
-    requires { all_entered (length all.now) legs.now ≡ true }
-    ensures { result ≡ has node (ends_of (legs_of all.now) legs.now) }
-{
-    match legs {
-        [] => false,
-        [first, rest @ ..] => leg_at(all, *first).to == node || ends_at(all, node, rest),
-    }
-}
-
-// Whether `node` was met before: it is where the path starts, or one of the legs ends there.
-fn met(all: &[Leg], origin: usize, node: usize, legs: &[u32]) -> bool
-    requires { all_entered (length all.now) legs.now ≡ true }
-    ensures { result ≡ has node (origin ∷ ends_of (legs_of all.now) legs.now) }
-{
-    origin == node || ends_at(all, node, legs)
-}
-
-// Whether the legs meet no node twice.
-pub(crate) fn nodes_once(all: &[Leg], legs: &[u32]) -> Answer
-    requires entered { all_entered (length all.now) legs.now ≡ true }
-    requires few { length legs.now ≤ 8 }
-    ensures { result ≡ nodes_answer (legs_of all.now) legs.now }
-{
-    let origin = start(all, legs);
-    for (i, leg) in legs.iter().enumerate() {
-        let node = leg_at(all, *leg).to;
-        if met(all, origin, node, &legs[0..i]) {
-            return Answer::No(i + 1);
+        for (i, number) in numbers.iter().enumerate() {
+            if *number as usize >= all.len() {
+                return Err(i + 1);
+            }
         }
+        Ok(Chain { all, numbers })
     }
-    Answer::Yes
+
+    pub(crate) fn leg(&self, number: u32) -> Leg
+        requires { number < length self.now.all.now }
+        ensures { leg_of result ≡ leg_at (legs_of self.now.all.now) number }
+    {
+        self.all[number as usize]
+    }
+
+    // The node where it starts.
+    pub(crate) fn start(&self) -> usize
+        ensures { result ≡ start_of (legs_of self.now.all.now) self.now.numbers.now }
+    {
+        self.leg(self.numbers[0]).from
+    }
+
+    // The node where it ends.
+    pub(crate) fn end(&self) -> usize
+        ensures { result ≡ end_of (legs_of self.now.all.now) self.now.numbers.now }
+    {
+        self.leg(self.numbers[self.numbers.len() - 1]).to
+    }
+
+    // Whether each leg starts where the last ended; or else the place of the first that does not.
+    pub(crate) fn linked(&self) -> Result<(), usize>
+        ensures { result ≡ chain_answer (legs_of self.now.all.now) self.now.numbers.now }
+    {
+        let mut node = self.start();
+        let mut left = self.numbers;
+        while let [first, rest @ ..] = left {
+            let leg = self.leg(*first);
+            if leg.from != node {
+                return Err(self.numbers.len() - rest.len());
+            }
+            node = leg.to;
+            left = rest;
+        }
+        Ok(())
+    }
+
+    // Whether no node is met twice; or else the place of the first leg that ends at a node met before.
+    pub(crate) fn nodes_once(&self) -> Result<(), usize>
+        ensures { result ≡ nodes_answer (legs_of self.now.all.now) self.now.numbers.now }
+    {
+        let mut met = ArrayVec::<usize, 9>::new();
+        met.push(self.start());
+        for (i, number) in self.numbers.iter().enumerate() {
+            let node = self.leg(*number).to;
+            if was_met(&met, node) {
+                return Err(i + 1);
+            }
+            met.push(node);
+        }
+        Ok(())
+    }
 }

@@ -1,17 +1,30 @@
-ghost use Rattle.std.specs.Prelude.{◌≡◌, ◌<◌, true, length, IfOk, vec_len};
+ghost use Rattle.std.specs.Prelude.{◌≡◌, ◌+◌, ◌<◌, true, [], ◌∷◌, ◌++◌, length, IfOk, vec_len, vec_capacity};
 ghost use Rattle.rules.specs.Network.{joins};
-ghost use Rattle.sheet.specs.Asks.{drawn_leg, with_node, with_leg, with_path};
+ghost use Rattle.sheet.specs.Asks.{with_node, with_leg, with_path};
 ghost use Rattle.sheet.specs.Checks.{PathOf};
 ghost use Rattle.sheet.specs.Sheets.{drawing, nothing_drawn, EntersNode, EntersLeg, EntersPath};
-ghost use Rattle.sheet.specs.Views.{node_of, leg_of, path_legs};
+ghost use Rattle.sheet.specs.Views.{node_of, leg_of, path_legs, told_leg};
 
-use crate::leg::Leg;
-use crate::node::Node;
+use crate::leg::{Leg, LegFigures};
+use crate::node::{Node, NodeFigures};
 use crate::path::Path;
 use crate::question::SheetQuestion;
 use crate::sheet::Sheet;
 use rules::fault::Fault;
 use std::alloc::{AllocError, Global};
+
+// Adds an item to a list that has room for it, and tells its number.
+fn append<T>(list: &mut Vec<T>, item: T) -> usize
+    requires { vec_len list.old < vec_capacity list.old }
+    ensures number { result ≡ vec_len list.old }
+    ensures items { list.new.items ≡ list.old.items ++ item ∷ [] }
+    ensures len { vec_len list.new ≡ vec_len list.old + 1 }
+    ensures room { vec_capacity list.new ≡ vec_capacity list.old }
+{
+    let number = list.len();
+    list.push_reserved(item);
+    number
+}
 
 impl Sheet {
     // An empty sheet, with the memory for all that can be entered.
@@ -29,9 +42,7 @@ impl Sheet {
         ensures number { result ≡ length (drawing self.old).nodes }
         ensures shows { drawing self.new ≡ with_node (drawing self.old) (node_of node) }
     {
-        let number = self.nodes.len();
-        self.nodes.push_reserved(node);
-        number
+        append(&mut self.nodes, node)
     }
 
     fn add_leg(&mut self, leg: Leg) -> usize
@@ -40,9 +51,7 @@ impl Sheet {
         ensures number { result ≡ length (drawing self.old).legs }
         ensures shows { drawing self.new ≡ with_leg (drawing self.old) (leg_of leg) }
     {
-        let number = self.legs.len();
-        self.legs.push_reserved(leg);
-        number
+        append(&mut self.legs, leg)
     }
 
     fn add_path(&mut self, path: Path) -> usize
@@ -51,51 +60,30 @@ impl Sheet {
         ensures number { result ≡ length (drawing self.old).paths }
         ensures shows { drawing self.new ≡ with_path (drawing self.old) (path_legs path) }
     {
-        let number = self.paths.len();
-        self.paths.push_reserved(path);
-        number
+        append(&mut self.paths, path)
     }
 
     // One node more, and its number; or the first question that its figures fail.
-    pub fn enter_node(
-        &mut self,
-        province: u32,
-        standalone: u32,
-        tight: u32,
-        congested: u32,
-    ) -> Result<usize, Fault<SheetQuestion>>
-        ensures { EntersNode self.old self.new province standalone tight congested result }
+    pub fn enter_node(&mut self, figures: NodeFigures) -> Result<usize, Fault<SheetQuestion>>
+        ensures { EntersNode self.old self.new figures.province figures.standalone figures.tight figures.congested result }
     {
-        match self.check_node(province, standalone, tight, congested) {
-            Ok(node) => Ok(self.add_node(node)),
-            Err(fault) => Err(fault),
-        }
+        let node = self.check_node(figures)?;
+        Ok(self.add_node(node))
     }
 
     // One leg more, and its number; or the first question that its figures fail.
-    pub fn enter_leg(
-        &mut self,
-        from: u32,
-        to: u32,
-        rate: u32,
-        tariff: u32,
-        limit: u32,
-    ) -> Result<usize, Fault<SheetQuestion>>
-        ensures { EntersLeg self.old self.new (drawn_leg from to rate tariff limit) result }
+    pub fn enter_leg(&mut self, figures: LegFigures) -> Result<usize, Fault<SheetQuestion>>
+        ensures { EntersLeg self.old self.new (told_leg figures) result }
     {
-        match self.check_leg(from, to, rate, tariff, limit) {
-            Ok(leg) => Ok(self.add_leg(leg)),
-            Err(fault) => Err(fault),
-        }
+        let leg = self.check_leg(figures)?;
+        Ok(self.add_leg(leg))
     }
 
     // One path more, and its number; or the first question that its legs fail.
     pub fn enter_path(&mut self, legs: &[u32]) -> Result<usize, Fault<SheetQuestion>>
         ensures { EntersPath self.old self.new legs.now result }
     {
-        match self.check_path(legs) {
-            Ok(path) => Ok(self.add_path(path)),
-            Err(fault) => Err(fault),
-        }
+        let path = self.check_path(legs)?;
+        Ok(self.add_path(path))
     }
 }

@@ -1,7 +1,6 @@
 // Nodes, legs and paths: what may be entered, and what a MW sent along a path becomes.
 #![tactic(auto)]
 
-mod ask;
 mod chain;
 mod check;
 mod enter;
@@ -16,6 +15,8 @@ mod trace;
 
 #[cfg(test)]
 mod tests {
+    use crate::leg::LegFigures;
+    use crate::node::NodeFigures;
     use crate::question::SheetQuestion;
     use crate::sheet::Sheet;
     use rules::fault::Fault;
@@ -35,20 +36,37 @@ mod tests {
         (sheet.node_count(), sheet.leg_count(), sheet.path_count())
     }
 
+    fn node(figures: [u32; 4]) -> NodeFigures {
+        let [province, standalone, tight, congested] = figures;
+        NodeFigures {
+            province,
+            standalone,
+            tight,
+            congested,
+        }
+    }
+
+    fn leg(figures: [u32; 5]) -> LegFigures {
+        let [from, to, rate, tariff, limit] = figures;
+        LegFigures {
+            from,
+            to,
+            rate,
+            tariff,
+            limit,
+        }
+    }
+
     // Enters the nodes of the table, each with what its entry must say.
     fn enter_nodes(rt: &impl Abort, sheet: &mut Sheet, table: &[([u32; 4], (u32, usize))]) {
         for (figures, says) in table.iter() {
-            let [province, standalone, tight, congested] = *figures;
-            let answer = sheet.enter_node(province, standalone, tight, congested);
-            assert_eq!(rt; said(answer), *says);
+            assert_eq!(rt; said(sheet.enter_node(node(*figures))), *says);
         }
     }
 
     fn enter_legs(rt: &impl Abort, sheet: &mut Sheet, table: &[([u32; 5], (u32, usize))]) {
         for (figures, says) in table.iter() {
-            let [from, to, rate, tariff, limit] = *figures;
-            let answer = sheet.enter_leg(from, to, rate, tariff, limit);
-            assert_eq!(rt; said(answer), *says);
+            assert_eq!(rt; said(sheet.enter_leg(leg(*figures))), *says);
         }
     }
 
@@ -61,10 +79,10 @@ mod tests {
     // Ten nodes, each in a province of its own, and a leg from each to the next.
     fn enter_row(rt: &impl Abort, sheet: &mut Sheet) {
         for i in 0..10 {
-            assert_eq!(rt; said(sheet.enter_node(i, 0, 0, 0)).0, 0);
+            assert_eq!(rt; said(sheet.enter_node(node([i, 0, 0, 0]))).0, 0);
         }
         for i in 0..9 {
-            assert_eq!(rt; said(sheet.enter_leg(i, i + 1, 200_000, 0, 0)).0, 0);
+            assert_eq!(rt; said(sheet.enter_leg(leg([i, i + 1, 200_000, 0, 0]))).0, 0);
         }
     }
 
@@ -140,17 +158,17 @@ mod tests {
     fn a_full_sheet(rt: HostRuntime) -> Result<(), Fail> {
         let mut sheet = Sheet::new(rt.alloc())?;
         for i in 0..40 {
-            assert_eq!(rt; said(sheet.enter_node(i, 0, 0, 0)), (0, i as usize));
+            assert_eq!(rt; said(sheet.enter_node(node([i, 0, 0, 0]))), (0, i as usize));
         }
         for i in 0..64 {
-            assert_eq!(rt; said(sheet.enter_leg(0, 1, 0, 0, 0)), (0, i));
+            assert_eq!(rt; said(sheet.enter_leg(leg([0, 1, 0, 0, 0]))), (0, i));
         }
         for i in 0..128 {
             assert_eq!(rt; said(sheet.enter_path(&[0])), (0, i));
         }
         // Where there is no room, the figures do not matter.
-        assert_eq!(rt; said(sheet.enter_node(100, 2, 0, 0)), (5, 0));
-        assert_eq!(rt; said(sheet.enter_leg(0, 0, 200_001, 0, 0)), (7, 0));
+        assert_eq!(rt; said(sheet.enter_node(node([100, 2, 0, 0]))), (5, 0));
+        assert_eq!(rt; said(sheet.enter_leg(leg([0, 0, 200_001, 0, 0]))), (7, 0));
         assert_eq!(rt; said(sheet.enter_path(&[])), (10, 0));
         assert_eq!(rt;
             counts(&sheet),

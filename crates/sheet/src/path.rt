@@ -1,11 +1,16 @@
-ghost use Rattle.std.specs.Prelude.{◌≤◌};
+ghost use Rattle.std.specs.Prelude.{◌≡◌, ◌≤◌};
+ghost use Rattle.arrayvec.specs.ArrayVec.{array_vec_len};
 
+use arrayvec::ArrayVec;
 use rules::charge::Charge;
+use rules::claim::{SentPrice, claim};
 use rules::power::Watts;
+use rules::price::Yuan;
 use rules::yields::Yield;
+use std::alloc::AllocError;
 
 // One leg of a path, with what enters and what leaves it of each MW sent.
-#[derive(Clone, Copy)]
+#[derive(Clone, Copy, PartialEq, Eq, Debug, Default)]
 pub struct Passage {
     pub leg: usize,
     pub enters: Watts,
@@ -13,14 +18,53 @@ pub struct Passage {
 }
 
 // A chain of 1 to 8 legs: its ends, what lands of each MW sent, and what it charges.
-#[derive(Clone, Copy)]
+#[derive(PartialEq, Eq, Debug, Drop)]
 pub struct Path {
     pub from: usize,
     pub to: usize,
     pub yields: Yield,
     pub charge: Charge,
-    pub(crate) passages: [Passage; 8],
-    pub(crate) count: usize,
-    ghost some: { 1 ≤ count },
-    ghost few: { count ≤ 8 },
+    pub(crate) passages: ArrayVec<Passage, 8>,
+    ghost some: { 1 ≤ array_vec_len passages },
+    ghost few: { array_vec_len passages ≤ 8 },
+}
+
+impl Path {
+    ghost use Rattle.rules.specs.Convert.{claim_of};
+    ghost use Rattle.sheet.specs.Views.{passages_of};
+
+    // The legs in order, each with what enters and what leaves it of each MW sent.
+    pub fn passages(&self) -> &[Passage]
+        ensures { result.now ≡ passages_of self.now }
+    {
+        self.passages.as_slice()
+    }
+
+    // What a bid at the far end is worth at the sending end.
+    pub fn claim(&self, bid: Yuan) -> SentPrice
+        ensures { result.0 ≡ claim_of bid.whole self.now.yields.watts self.now.charge.billionths }
+    {
+        claim(bid, self.yields, self.charge)
+    }
+}
+
+// A copy has the same ends, figures and passages, and wants no memory. It is made by hand, since no derive copies a type with ghost fields.
+impl Clone for Path {
+    ghost use Rattle.std.specs.Bool.{⊤};
+    ghost use Rattle.sheet.specs.Views.{passages_of, route_of};
+
+    ghost is_clone = { λ path copy. (route_of copy ≡ route_of path) × (passages_of copy ≡ passages_of path) };
+
+    ghost is_infallible = { λ _. ⊤ };
+
+    #[tactic(auto, using(crate::proofs::Keeping::copied))]
+    fn clone(&self) -> Result<Path, AllocError> {
+        Ok(Path {
+            from: self.from,
+            to: self.to,
+            yields: self.yields,
+            charge: self.charge,
+            passages: self.passages.clone()?,
+        })
+    }
 }

@@ -4,33 +4,23 @@ ghost use Rattle.sheet.specs.Numbers.{number};
 // What is asked of a node, a leg or a path that is to be entered.
 #[derive(Clone, Copy, PartialEq, Eq, Debug)]
 pub enum SheetQuestion {
-    NodeCount,
-    NodeFigures,
-    LegCount,
-    LegNodes,
-    LegFigures,
-    PathCount,
-    PathLegs,
-    PathChain,
-    PathNodes,
-    PathEnds,
+    NodeCount = 5,
+    NodeFigures = 6,
+    LegCount = 7,
+    LegNodes = 8,
+    LegFigures = 9,
+    PathCount = 10,
+    PathLegs = 11,
+    PathChain = 12,
+    PathNodes = 13,
+    PathEnds = 14,
 }
 
 impl SheetQuestion {
+    // The number that a fault is told by. Each enum of questions has this line, since `as` takes no type parameter; a trait would have it too.
     pub fn number(self) -> u32
         ensures { result ≡ number self }
     {
-        match self {
-            SheetQuestion::NodeCount => 5,
-            SheetQuestion::NodeFigures => 6,
-            SheetQuestion::LegCount => 7,
-            SheetQuestion::LegNodes => 8,
-            SheetQuestion::LegFigures => 9,
-            SheetQuestion::PathCount => 10,
-            SheetQuestion::PathLegs => 11,
-            SheetQuestion::PathChain => 12,
-            SheetQuestion::PathNodes => 13,
-            SheetQuestion::PathEnds => 14,
-        }
+        self as u32
     }
 }

@@ -9,7 +9,7 @@ use crate::path::Path;
 
 // The nodes, legs and paths that were entered. Each leg joins two of the nodes, and each path is a chain of the legs that
 // meets no node twice, whose ends may trade, with its figures worked out. All memory is reserved when it is made.
-#[derive(Drop)]
+#[derive(Debug, Drop)]
 pub struct Sheet {
     pub(crate) nodes: Vec<Node>,
     pub(crate) legs: Vec<Leg>,

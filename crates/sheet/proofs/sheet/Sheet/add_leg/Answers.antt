@@ -13,14 +13,14 @@ invariant_of-self c =
     let ls = vec_items s.legs in
     let ps = vec_items s.paths in
     record {
-      few_nodes = omega (arith, c.push_reserved.ensures.len);
-      few_legs = omega (arith, c.push_reserved.ensures.len);
-      few_paths = omega (arith, c.push_reserved.ensures.len);
-      node_room = omega (arith, c.push_reserved.ensures.capacity);
-      leg_room = omega (arith, c.push_reserved.ensures.capacity);
-      path_room = omega (arith, c.push_reserved.ensures.capacity);
-      joined = ap (λ xs. joins_all (vec_len s.nodes) (legs_of xs)) c.push_reserved.ensures.items ∙ leg_keeps_legs ns ls ps _ s.nodes.ok.0 s.joined s.sound c.args.leg c.requires.joined;
-      sound = ap (λ xs. all_of (is_sound (nodes_of ns) (legs_of xs)) ps) c.push_reserved.ensures.items ∙ leg_keeps_paths ns ls ps _ s.nodes.ok.0 s.joined s.sound c.args.leg;
+      few_nodes = omega (arith, c.append.ensures.len);
+      few_legs = omega (arith, c.append.ensures.len);
+      few_paths = omega (arith, c.append.ensures.len);
+      node_room = omega (arith, c.append.ensures.room);
+      leg_room = omega (arith, c.append.ensures.room);
+      path_room = omega (arith, c.append.ensures.room);
+      joined = ap (λ xs. joins_all (vec_len s.nodes) (legs_of xs)) c.append.ensures.items ∙ leg_keeps_legs ns ls ps _ s.nodes.ok.0 s.joined s.sound c.args.leg c.requires.joined;
+      sound = ap (λ xs. all_of (is_sound (nodes_of ns) (legs_of xs)) ps) c.append.ensures.items ∙ leg_keeps_paths ns ls ps _ s.nodes.ok.0 s.joined s.sound c.args.leg;
     }
 
 pub returns : goal.returns
@@ -30,6 +30,6 @@ returns c =
     let ls = vec_items s.legs in
     let ps = vec_items s.paths in
     record {
-      number = c.len-number.ensures ∙ s.legs.ok.0 ∙ sym (length-map ls leg_of);
-      shows = ap (λ xs. drawn (nodes_of ns) xs (map path_legs ps)) (ap legs_of c.push_reserved.ensures.items ∙ map_push leg_of ls c.args.leg);
+      number = c.append.ensures.number ∙ s.legs.ok.0 ∙ sym (length-map ls leg_of);
+      shows = ap (λ xs. drawn (nodes_of ns) xs (map path_legs ps)) (ap legs_of c.append.ensures.items ∙ map_push leg_of ls c.args.leg);
     }

@@ -13,14 +13,14 @@ invariant_of-self c =
     let ls = vec_items s.legs in
     let ps = vec_items s.paths in
     record {
-      few_nodes = omega (arith, c.push_reserved.ensures.len);
-      few_legs = omega (arith, c.push_reserved.ensures.len);
-      few_paths = omega (arith, c.push_reserved.ensures.len);
-      node_room = omega (arith, c.push_reserved.ensures.capacity);
-      leg_room = omega (arith, c.push_reserved.ensures.capacity);
-      path_room = omega (arith, c.push_reserved.ensures.capacity);
-      joined = ap (λ n. joins_all n (legs_of ls)) c.push_reserved.ensures.len ∙ node_keeps_legs ns ls ps _ s.nodes.ok.0 s.joined s.sound;
-      sound = ap (λ xs. all_of (is_sound (nodes_of xs) (legs_of ls)) ps) c.push_reserved.ensures.items ∙ node_keeps_paths ns ls ps _ s.nodes.ok.0 s.joined s.sound c.args.node;
+      few_nodes = omega (arith, c.append.ensures.len);
+      few_legs = omega (arith, c.append.ensures.len);
+      few_paths = omega (arith, c.append.ensures.len);
+      node_room = omega (arith, c.append.ensures.room);
+      leg_room = omega (arith, c.append.ensures.room);
+      path_room = omega (arith, c.append.ensures.room);
+      joined = ap (λ n. joins_all n (legs_of ls)) c.append.ensures.len ∙ node_keeps_legs ns ls ps _ s.nodes.ok.0 s.joined s.sound;
+      sound = ap (λ xs. all_of (is_sound (nodes_of xs) (legs_of ls)) ps) c.append.ensures.items ∙ node_keeps_paths ns ls ps _ s.nodes.ok.0 s.joined s.sound c.args.node;
     }
 
 pub returns : goal.returns
@@ -30,6 +30,6 @@ returns c =
     let ls = vec_items s.legs in
     let ps = vec_items s.paths in
     record {
-      number = c.len-number.ensures ∙ s.nodes.ok.0 ∙ sym (length-map ns node_of);
-      shows = ap (λ xs. drawn xs (legs_of ls) (map path_legs ps)) (ap nodes_of c.push_reserved.ensures.items ∙ map_push node_of ns c.args.node);
+      number = c.append.ensures.number ∙ s.nodes.ok.0 ∙ sym (length-map ns node_of);
+      shows = ap (λ xs. drawn xs (legs_of ls) (map path_legs ps)) (ap nodes_of c.append.ensures.items ∙ map_push node_of ns c.args.node);
     }

@@ -12,14 +12,14 @@ invariant_of-self c =
     let ls = vec_items s.legs in
     let ps = vec_items s.paths in
     record {
-      few_nodes = omega (arith, c.push_reserved.ensures.len);
-      few_legs = omega (arith, c.push_reserved.ensures.len);
-      few_paths = omega (arith, c.push_reserved.ensures.len);
-      node_room = omega (arith, c.push_reserved.ensures.capacity);
-      leg_room = omega (arith, c.push_reserved.ensures.capacity);
-      path_room = omega (arith, c.push_reserved.ensures.capacity);
+      few_nodes = omega (arith, c.append.ensures.len);
+      few_legs = omega (arith, c.append.ensures.len);
+      few_paths = omega (arith, c.append.ensures.len);
+      node_room = omega (arith, c.append.ensures.room);
+      leg_room = omega (arith, c.append.ensures.room);
+      path_room = omega (arith, c.append.ensures.room);
       joined = s.joined;
-      sound = ap (all_of (is_sound (nodes_of ns) (legs_of ls))) c.push_reserved.ensures.items
+      sound = ap (all_of (is_sound (nodes_of ns) (legs_of ls))) c.append.ensures.items
           ∙ path_keeps_paths ns ls ps _ s.nodes.ok.0 s.joined s.sound c.args.path c.requires.sound.a_path c.requires.sound.route;
     }
 
@@ -30,6 +30,6 @@ returns c =
     let ls = vec_items s.legs in
     let ps = vec_items s.paths in
     record {
-      number = c.len-number.ensures ∙ s.paths.ok.0 ∙ sym (length-map ps path_legs);
-      shows = ap (λ xs. drawn (nodes_of ns) (legs_of ls) xs) (ap (map path_legs) c.push_reserved.ensures.items ∙ map_push path_legs ps c.args.path);
+      number = c.append.ensures.number ∙ s.paths.ok.0 ∙ sym (length-map ps path_legs);
+      shows = ap (λ xs. drawn (nodes_of ns) (legs_of ls) xs) (ap (map path_legs) c.append.ensures.items ∙ map_push path_legs ps c.args.path);
     }
