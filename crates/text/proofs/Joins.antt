@@ -1,10 +1,10 @@
 -- Lines and words that are joined and read back, and the other way.
-use Rattle.std.proofs.Common.{◌≡◌, ℕ, ◌<◌, true, false, ◌||◌, eqb, ◌⊎◌, List, [], ◌∷◌, ◌++◌, length, sym, refl, ap, ◌∙◌, inl, inr, arith}
-use Rattle.std.proofs.lemmas.Bool.{eq-eqb, eqb-true, cond-true, cond-false, cond_both, and_parts, and_from, not-true, or_parts, or_from, not_from_false}
+use Rattle.std.proofs.Common.{◌≡◌, ℕ, zero, suc, ◌<◌, true, false, ◌||◌, eqb, ◌⊎◌, List, [], ◌∷◌, ◌++◌, length, sym, refl, ap, ◌∙◌, inl, inr, arith}
+use Rattle.std.proofs.lemmas.Bool.{eq-eqb, eqb-true, cond-true, cond-false, cond_both, and_parts, and_from, not-true, or_parts, or_from, not_from_false, false≢true}
 use Rattle.rules.specs.Lists.{all_of, has}
 use Rattle.text.specs.Pieces.{longer, parted, lines, words}
 use Rattle.text.specs.Format.{join_words, join_lines, lacks}
-use Rattle.text.proofs.Parting.{words_some}
+use Rattle.text.proofs.Parting.{Free, words_whole, words_some}
 
 pub lacks_parts : (m x : ℕ) (xs : List ℕ) → lacks m (x ∷ xs) ≡ true → (eqb x m ≡ false) × (lacks m xs ≡ true)
 lacks_parts m x xs h =
@@ -21,11 +21,10 @@ parted_front last m (x ∷ a) bs h =
     let p = lacks_parts m x a h in
     cond-false (eqb x m) _ _ p.0 ∙ ap (longer x) (parted_front last m a bs p.1)
 
-pub words_alone : (m : ℕ) (a : List ℕ) → lacks m a ≡ true → parted ([] ∷ []) m a ≡ a ∷ []
-words_alone m [] h = refl
-words_alone m (x ∷ a) h =
-    let p = lacks_parts m x a h in
-    cond-false (eqb x m) _ _ p.0 ∙ ap (longer x) (words_alone m a p.1)
+lacks_free : (m : ℕ) (a : List ℕ) → lacks m a ≡ true → Free m a (length a)
+lacks_free m [] h k l e = absurd (omega arith)
+lacks_free m (x ∷ a) h zero l e = absurd (false≢true (sym (lacks_parts m x a h).0 ∙ eq-eqb x m e))
+lacks_free m (x ∷ a) h (suc k) l e = lacks_free m a (lacks_parts m x a h).1 k (omega arith) e
 
 pub lines_back : (ls : List (List ℕ)) → all_of (lacks 10) ls ≡ true → lines (join_lines ls) ≡ ls
 lines_back [] h = refl
@@ -34,7 +33,7 @@ lines_back (l ∷ ls) h =
     parted_front [] 10 l (join_lines ls) p.0 ∙ ap (λ qs. l ∷ qs) (lines_back ls p.1)
 
 pub words_back : (w : List ℕ) (ws : List (List ℕ)) → all_of (lacks 32) (w ∷ ws) ≡ true → words (join_words (w ∷ ws)) ≡ w ∷ ws
-words_back w [] h = words_alone 32 w (and_parts (lacks 32 w) true h).0
+words_back w [] h = words_whole 32 w (lacks_free 32 w (and_parts (lacks 32 w) true h).0)
 words_back w (v ∷ ws) h =
     let p = and_parts (lacks 32 w) (all_of (lacks 32) (v ∷ ws)) h in
     parted_front ([] ∷ []) 32 w (join_words (v ∷ ws)) p.0 ∙ ap (λ qs. w ∷ qs) (words_back v ws p.1)

@@ -1,4 +1,5 @@
 pub mod Parting
+pub mod Lengths
 pub mod Digits
 pub mod Reading
 pub mod Joins

@@ -1,7 +1,7 @@
 -- Bytes parted at a mark: at its first place, where there is none, and one byte on.
-use Rattle.std.proofs.Common.{◌≡◌, ℕ, zero, suc, ◌+◌, ◌<◌, ◌≤◌, eqb, List, [], ◌∷◌, length, get_or, take, drop, Some, None, sym, refl, ap, ◌∙◌, one-add, arith}
+use Rattle.std.proofs.Common.{◌≡◌, ℕ, zero, suc, ◌+◌, ◌<◌, ◌≤◌, cond, eqb, ◌==◌, count_by, List, [], ◌∷◌, length, get_or, take, drop, Some, None, refl, ap, ◌∙◌, arith}
 use Rattle.std.proofs.lemmas.Bool.{eq-eqb, ne_eqb, cond-true, cond-false, cond_both}
-use Rattle.std.proofs.lemmas.List.{drop_more}
+use Rattle.std.proofs.lemmas.List.Sums.{sum_by-cons, count_by-le-length}
 use Rattle.text.specs.Pieces.{longer, parted, after}
 
 -- the first n bytes are not the mark
@@ -49,18 +49,14 @@ words_some m (x ∷ xs) =
     cond_both (eqb x m) _ _ (λ ps. 0 < length ps) (λ _. omega arith)
     (λ _. omega (arith, words_some m xs, grown x (parted ([] ∷ []) m xs) (words_some m xs)))
 
+-- there is one piece more than there are marks
+pub words_count : (m : ℕ) (xs : List ℕ) → length (parted ([] ∷ []) m xs) ≡ count_by (λ b. b == m) xs + 1
+words_count m [] = refl
+words_count m (x ∷ xs) =
+    let more = sum_by-cons (λ b. cond (eqb b m) 1 0) x xs in
+    cond_both (eqb x m) _ _ (λ ps. length ps ≡ count_by (λ b. b == m) (x ∷ xs) + 1)
+    (λ e. omega (arith, more, cond-true {A = ℕ} (eqb x m) 1 0 e, words_count m xs))
+    (λ e. omega (arith, more, cond-false {A = ℕ} (eqb x m) 1 0 e, grown x _ (words_some m xs), words_count m xs))
+
 pub words_few : (m : ℕ) (xs : List ℕ) → length (parted ([] ∷ []) m xs) ≤ length xs + 1
-words_few m [] = omega arith
-words_few m (x ∷ xs) =
-    cond_both (eqb x m) _ _ (λ ps. length ps ≤ length (x ∷ xs) + 1) (λ _. omega (arith, words_few m xs))
-    (λ _. omega (arith, words_few m xs, grown x (parted ([] ∷ []) m xs) (words_some m xs)))
-
--- a mark starts one more piece, and any other byte none
-module _ (m : ℕ) (xs : List ℕ) (i : ℕ) (inside : i < length xs) where
-  pub count_mark : get_or xs i 0 ≡ m → length (parted ([] ∷ []) m (drop i xs)) ≡ 1 + length (parted ([] ∷ []) m (drop (i + 1) xs))
-  count_mark e =
-      ap (λ ys. length (parted ([] ∷ []) m ys)) (drop_more xs i 0 inside) ∙ ap length (cond-true (eqb (get_or xs i 0) m) _ _ (eq-eqb (get_or xs i 0) m e)) ∙ sym (one-add _)
-
-  pub count_other : (get_or xs i 0 ≡ m → ⊥) → length (parted ([] ∷ []) m (drop i xs)) ≡ length (parted ([] ∷ []) m (drop (i + 1) xs))
-  count_other ne =
-      ap (λ ys. length (parted ([] ∷ []) m ys)) (drop_more xs i 0 inside) ∙ ap length (cond-false (eqb (get_or xs i 0) m) _ _ (ne_eqb (get_or xs i 0) m ne)) ∙ grown (get_or xs i 0) _ (words_some m (drop (i + 1) xs))
+words_few m xs = omega (arith, words_count m xs, count_by-le-length (λ b. b == m) xs)

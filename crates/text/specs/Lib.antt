@@ -1,4 +1,5 @@
 pub mod Pieces
+pub mod Left
 pub mod Figures
 pub mod Words
 pub mod Numbers

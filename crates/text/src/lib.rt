@@ -3,6 +3,7 @@
 
 pub mod laws;
 pub mod number;
+pub mod pieces;
 pub mod question;
 pub mod row;
 pub mod split;

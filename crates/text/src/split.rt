@@ -1,19 +1,13 @@
-ghost use Rattle.std.specs.Prelude.{◌≡◌, ℕ, ◌+◌, ◌<◌, ◌≤◌, [], ◌∷◌, length, MatchOption, ◌≢◌, slice_index};
+ghost use Rattle.std.specs.Prelude.{◌≡◌, ℕ, ◌+◌, ◌<◌, ◌≤◌, [], ◌∷◌, length, IfSome, MatchOption, ◌≢◌, ◌==◌, slice_index, count_by, unwrap_or};
 ghost use Rattle.std.specs.Option.{option_map};
 ghost use Rattle.text.specs.Pieces.{parted, parts_of, words, after, words_of, FirstLine};
 
-// The place of the first mark, or the length where there is none.
-fn place_of(bytes: &[u8], mark: u8) -> usize
-    ensures within { result ≤ length bytes.now }
-    ensures before { (k : ℕ) → k < result → slice_index bytes.now k ≢ mark }
-    ensures found { result < length bytes.now → slice_index bytes.now result ≡ mark }
+// The place of the first mark, if there is one.
+fn place_of(bytes: &[u8], mark: u8) -> Option<usize>
+    ensures found { IfSome result (λ place. (place < length bytes.now) × (slice_index bytes.now place ≡ mark)) }
+    ensures before { (k : ℕ) → k < unwrap_or result (length bytes.now) → slice_index bytes.now k ≢ mark }
 {
-    for (i, b) in bytes.iter().enumerate() {
-        if *b == mark {
-            return i;
-        }
-    }
-    bytes.len()
+    bytes.iter().position(|b| *b == mark)
 }
 
 // What stands before the first mark, and what follows it where there is one.
@@ -23,11 +17,9 @@ fn cut(bytes: &[u8], mark: u8) -> (&[u8], Option<&[u8]>)
     ensures as_lines { 0 < length bytes.now → parted [] mark bytes.now ≡ result.0.now ∷ parts_of [] mark (option_map (λ x. x.now) result.1) }
     ensures as_words { parted ([] ∷ []) mark bytes.now ≡ result.0.now ∷ parts_of ([] ∷ []) mark (option_map (λ x. x.now) result.1) }
 {
-    let end = place_of(bytes, mark);
-    if end < bytes.len() {
-        (&bytes[0..end], Some(&bytes[end + 1..]))
-    } else {
-        (bytes, None)
+    match place_of(bytes, mark) {
+        Some(end) => (&bytes[..end], Some(&bytes[end + 1..])),
+        None => (bytes, None),
     }
 }
 
@@ -55,19 +47,14 @@ pub fn first_word(line: &[u8]) -> (&[u8], Option<&[u8]>)
 
 // How many marks there are.
 fn count(bytes: &[u8], mark: u8) -> usize
-    ensures value { result + 1 ≡ length (parted ([] ∷ []) mark bytes.now) }
+    ensures value { result ≡ count_by (λ b. b == mark) bytes.now }
     ensures bound { result ≤ length bytes.now }
 {
-    let mut n = 0;
-    for b in bytes {
-        if *b == mark {
-            n += 1;
-        }
-    }
-    n
+    bytes.iter().filter(|b| **b == mark).count()
 }
 
 // One word more than there are spaces.
+#[tactic(auto, using(crate::proofs::Parting::words_count))]
 pub fn count_words(line: &[u8]) -> usize
     ensures { result ≡ length (words line.now) }
 {

@@ -1,6 +1,4 @@
-ghost use Rattle.std.specs.Prelude.{◌≡◌};
-ghost use Rattle.std.specs.Str.{bytes_eq};
-ghost use Rattle.text.specs.Words.{word_of};
+ghost use Rattle.text.specs.Words.{ReadsWord};
 
 // The words that a line of a case may begin with.
 #[derive(Clone, Copy, PartialEq, Eq, Debug)]
@@ -15,35 +13,27 @@ pub enum Word {
     Go,
 }
 
-impl Word {
-    // The word that the first word of a line spells.
-    pub fn of(first: &[u8]) -> Option<Word>
-        ensures { result ≡ word_of first.now }
-    {
-        if same(first, b"node") {
-            Some(Word::Node)
-        } else if same(first, b"leg") {
-            Some(Word::Leg)
-        } else if same(first, b"path") {
-            Some(Word::Path)
-        } else if same(first, b"section") {
-            Some(Word::Section)
-        } else if same(first, b"limits") {
-            Some(Word::Limits)
-        } else if same(first, b"sell") {
-            Some(Word::Sell)
-        } else if same(first, b"buy") {
-            Some(Word::Buy)
-        } else if same(first, b"go") {
-            Some(Word::Go)
-        } else {
-            None
+// A first word that no line of a case may begin with.
+#[derive(Clone, Copy, PartialEq, Eq, Debug)]
+pub struct UnknownWord;
+
+// The word that the first word of a line spells.
+impl TryFrom<&[u8]> for Word {
+    type Error = UnknownWord;
+
+    ghost try_from_gives = { λ first read. ReadsWord first.now read };
+
+    fn try_from(first: &[u8]) -> Result<Word, UnknownWord> {
+        match first {
+            b"node" => Ok(Word::Node),
+            b"leg" => Ok(Word::Leg),
+            b"path" => Ok(Word::Path),
+            b"section" => Ok(Word::Section),
+            b"limits" => Ok(Word::Limits),
+            b"sell" => Ok(Word::Sell),
+            b"buy" => Ok(Word::Buy),
+            b"go" => Ok(Word::Go),
+            _ => Err(UnknownWord),
         }
     }
-}
-
-fn same(a: &[u8], b: &[u8]) -> bool
-    ensures { result ≡ bytes_eq a.now b.now }
-{
-    a == b
 }
