@@ -1,41 +1,31 @@
 -- A section's gauges, asked one by one, and one section more.
-use Rattle.std.proofs.Common.{◌≡◌, ℕ, zero, suc, ◌+◌, ◌-◌, ◌<◌, ◌≤◌, Bool, true, false, ◌&&◌, ltb, leb, List, [], ◌∷◌, ◌++◌, map, length, get_or, take, drop, set, None, filter, sym, refl, ap, ◌∙◌, inl, inr, arith}
-use Rattle.std.proofs.lemmas.List.{at_drop_more, take_more_set, map_push}
+use Rattle.std.proofs.Common.{◌≡◌, ℕ, zero, suc, ◌+◌, ◌-◌, ◌<◌, ◌≤◌, Bool, true, false, ◌&&◌, ltb, leb, List, [], ◌∷◌, ◌++◌, take, None, Ok, Err, sym, refl, ap, ◌∙◌, inl, inr, arith}
+use Rattle.std.proofs.lemmas.List.{map_push}
 use Rattle.std.proofs.lemmas.Bool.{and_parts, and_from, and_right, le-leb, lt-ltb, cases_Bool, both_ways}
 use Rattle.rules.specs.Grids.{Meaning, Lawful, gauges_of, extended, rising_from, rising_ground}
 use Rattle.rules.specs.LegGrids.{limit_room}
 use Rattle.rules.specs.Lists.{all_of}
 use Rattle.rules.specs.Questions.{Asked, asked, answered, first_no}
-use Rattle.rules.specs.declared.fault.Answer.TheVariants.{Yes, No}
 use Rattle.rules.specs.declared.power.Watts.{Watts}
 use Rattle.rules.proofs.Asking.{passes, stops_or_goes, never, asks_on, Next, fails_at, next_of}
-use Rattle.rules.proofs.Meanings.{one_more}
+use Rattle.rules.proofs.Meanings.{none_added, one_more}
+use Rattle.arrayvec.specs.ArrayVec.{ArrayVec}
+use Rattle.rules.specs.declared.limit.Limit.{Limit}
+use Rattle.grid.specs.declared.grid.Grid.{Ghosts}
 use Rattle.grid.specs.SectionAsks.{one_to_sixteen, gauges_from, gauges_answer, section_questions, Addable}
 use Rattle.grid.specs.SectionLaws.{SectionsStand}
-use Rattle.grid.specs.Sections.{gauges_in, ground_in, counted, overs, stacked, here, over}
+use Rattle.grid.specs.Sections.{section_gauges, over}
 use Rattle.grid.specs.declared.question.GridQuestion.{GridQuestion}
 use Rattle.grid.specs.declared.question.GridQuestion.TheVariants.{SectionCount, SectionGauges, SectionLimit}
-use Rattle.grid.specs.declared.section.Section.{Section}
 use Rattle.grid.specs.declared.sections.SectionGrid.{SectionGrid}
-use Rattle.grid.specs.Stacks.{in_all_of}
 
 -- the gauges from one on, where it may stand and where it may not
 module _ (grounds n i k : ℕ) (ks : List ℕ) where
   first_stands : (leb n k && ltb k grounds) ≡ true → gauges_from grounds n i (k ∷ ks) ≡ gauges_from grounds (k + 1) (i + 1) ks
-  first_stands e = ap (λ b. elim b [ true ↦ gauges_from grounds (k + 1) (i + 1) ks | false ↦ No i ]) e
+  first_stands e = ap (λ b. elim b [ true ↦ gauges_from grounds (k + 1) (i + 1) ks | false ↦ Err i ]) e
 
-  first_falls : (leb n k && ltb k grounds) ≡ false → gauges_from grounds n i (k ∷ ks) ≡ No i
-  first_falls e = ap (λ b. elim b [ true ↦ gauges_from grounds (k + 1) (i + 1) ks | false ↦ No i ]) e
-
-module _ (grounds n i : ℕ) (ks : List ℕ) (at : ℕ) (real : at < length ks) where
-  here_and_on : gauges_from grounds n i (drop at ks) ≡ gauges_from grounds n i (get_or ks at 0 ∷ drop (at + 1) ks)
-  here_and_on = at_drop_more (gauges_from grounds n i) ks at 0 real
-
-  pub goes_on : (leb n (get_or ks at 0) && ltb (get_or ks at 0) grounds) ≡ true → gauges_from grounds n i (drop at ks) ≡ gauges_from grounds (get_or ks at 0 + 1) (i + 1) (drop (at + 1) ks)
-  goes_on e = here_and_on ∙ first_stands grounds n i (get_or ks at 0) (drop (at + 1) ks) e
-
-  pub stops_here : (leb n (get_or ks at 0) && ltb (get_or ks at 0) grounds) ≡ false → gauges_from grounds n i (drop at ks) ≡ No i
-  stops_here e = here_and_on ∙ first_falls grounds n i (get_or ks at 0) (drop (at + 1) ks) e
+  first_falls : (leb n k && ltb k grounds) ≡ false → gauges_from grounds n i (k ∷ ks) ≡ Err i
+  first_falls e = ap (λ b. elim b [ true ↦ gauges_from grounds (k + 1) (i + 1) ks | false ↦ Err i ]) e
 
 -- strictly rising ground gauges, none below n
 abbrev fine : ℕ → ℕ → List ℕ → Bool
@@ -54,13 +44,13 @@ apart false b r s h = refl
 first_fine : (grounds n k : ℕ) (ks : List ℕ) → (leb n k && ltb k grounds) ≡ true → fine grounds n (k ∷ ks) ≡ fine grounds (k + 1) ks
 first_fine grounds n k ks h = together (leb n k) (ltb k grounds) (rising_from (k + 1) ks) (all_of (λ j. ltb j grounds) ks) h
 
-all_fine : (grounds n i : ℕ) (ks : List ℕ) → gauges_from grounds n i ks ≡ Yes → fine grounds n ks ≡ true
+all_fine : (grounds n i : ℕ) (ks : List ℕ) → gauges_from grounds n i ks ≡ Ok tt → fine grounds n ks ≡ true
 all_fine grounds n i [] h = refl
 all_fine grounds n i (k ∷ ks) h =
     let p = passes (leb n k && ltb k grounds) i (gauges_from grounds (k + 1) (i + 1) ks) h in
     first_fine grounds n k ks p.0 ∙ all_fine grounds (k + 1) (i + 1) ks p.1
 
-fine_all : (grounds n i : ℕ) (ks : List ℕ) → fine grounds n ks ≡ true → gauges_from grounds n i ks ≡ Yes
+fine_all : (grounds n i : ℕ) (ks : List ℕ) → fine grounds n ks ≡ true → gauges_from grounds n i ks ≡ Ok tt
 fine_all grounds n i [] h = refl
 fine_all grounds n i (k ∷ ks) h =
     elim (cases_Bool (leb n k && ltb k grounds)) [
@@ -69,7 +59,7 @@ fine_all grounds n i (k ∷ ks) h =
     ]
 
 -- a no names the first gauge with which they are no longer fine
-no_at : (grounds n i : ℕ) (ks : List ℕ) (p : ℕ) → gauges_from grounds n i ks ≡ No p → (j : ℕ) × (p ≡ i + j) × Next (fine grounds n) ks j
+no_at : (grounds n i : ℕ) (ks : List ℕ) (p : ℕ) → gauges_from grounds n i ks ≡ Err p → (j : ℕ) × (p ≡ i + j) × Next (fine grounds n) ks j
 no_at grounds n i [] p h = absurd (never (sym h))
 no_at grounds n i (k ∷ ks) p h =
     elim (stops_or_goes (leb n k && ltb k grounds) i (gauges_from grounds (k + 1) (i + 1) ks) p h) [
@@ -86,33 +76,33 @@ no_at grounds n i (k ∷ ks) p h =
           )
     ]
 
-at_no : (grounds n i : ℕ) (ks : List ℕ) (j : ℕ) → Next (fine grounds n) ks j → gauges_from grounds n i ks ≡ No (i + j)
+at_no : (grounds n i : ℕ) (ks : List ℕ) (j : ℕ) → Next (fine grounds n) ks j → gauges_from grounds n i ks ≡ Err (i + j)
 at_no grounds n i [] j f = absurd (omega (arith, f.inside))
 at_no grounds n i (k ∷ ks) zero f =
     elim (cases_Bool (leb n k && ltb k grounds)) [
       | inl e ↦ absurd (both_ways (fine grounds n (k ∷ [])) f.here (first_fine grounds n k [] e))
-      | inr e ↦ first_falls grounds n i k ks e ∙ ap No (omega arith)
+      | inr e ↦ first_falls grounds n i k ks e ∙ ap Err (omega arith)
     ]
 at_no grounds n i (k ∷ ks) (suc j) f =
     elim (cases_Bool (leb n k && ltb k grounds)) [
       | inl e ↦
           let more = at_no grounds (k + 1) (i + 1) ks j (record { inside = omega (arith, f.inside); before = sym (first_fine grounds n k (take j ks) e) ∙ f.before; here = sym (first_fine grounds n k (take (suc j) ks) e) ∙ f.here }) in
-          first_stands grounds n i k ks e ∙ more ∙ ap No (omega arith)
+          first_stands grounds n i k ks e ∙ more ∙ ap Err (omega arith)
       | inr e ↦ absurd (both_ways (fine grounds n (k ∷ take j ks)) (apart (leb n k) (ltb k grounds) _ _ e) f.before)
     ]
 
 -- with the question on the count
 pub counted_in : (grounds : ℕ) (ks : List ℕ) → one_to_sixteen ks ≡ true → gauges_answer grounds ks ≡ gauges_from grounds 0 1 ks
-counted_in grounds ks h = ap (λ b. elim b [ true ↦ gauges_from grounds 0 1 ks | false ↦ No 0 ]) h
+counted_in grounds ks h = ap (λ b. elim b [ true ↦ gauges_from grounds 0 1 ks | false ↦ Err 0 ]) h
 
-pub counted_out : (grounds : ℕ) (ks : List ℕ) → one_to_sixteen ks ≡ false → gauges_answer grounds ks ≡ No 0
-counted_out grounds ks h = ap (λ b. elim b [ true ↦ gauges_from grounds 0 1 ks | false ↦ No 0 ]) h
+pub counted_out : (grounds : ℕ) (ks : List ℕ) → one_to_sixteen ks ≡ false → gauges_answer grounds ks ≡ Err 0
+counted_out grounds ks h = ap (λ b. elim b [ true ↦ gauges_from grounds 0 1 ks | false ↦ Err 0 ]) h
 
-pub gauges_yes : (grounds : ℕ) (ks : List ℕ) → gauges_answer grounds ks ≡ Yes → (one_to_sixteen ks ≡ true) × (rising_ground grounds ks ≡ true)
+pub gauges_yes : (grounds : ℕ) (ks : List ℕ) → gauges_answer grounds ks ≡ Ok tt → (one_to_sixteen ks ≡ true) × (rising_ground grounds ks ≡ true)
 gauges_yes grounds ks h = let p = passes (one_to_sixteen ks) 0 (gauges_from grounds 0 1 ks) h in (p.0, all_fine grounds 0 1 ks p.1)
 
 -- a section that passes its questions
-pub passes_all : (n : ℕ) (m : Meaning) (ks : List ℕ) (limit : ℕ) → n < 8 → gauges_of m < 256 → gauges_answer m.grounds ks ≡ Yes → limit ≤ 100000
+pub passes_all : (n : ℕ) (m : Meaning) (ks : List ℕ) (limit : ℕ) → n < 8 → gauges_of m < 256 → gauges_answer m.grounds ks ≡ Ok tt → limit ≤ 100000
     → first_no (section_questions n m ks limit) ≡ None
 passes_all n m ks limit few few_in_all gauges within =
     let last : List (Asked GridQuestion) = asked SectionLimit (answered (leb limit 100000)) ∷ [] in
@@ -130,50 +120,19 @@ sections_stand_lem =
           let r = no_at grounds 0 1 ks p (sym (counted_in grounds ks some) ∙ h) in
           fails_at (rising_ground grounds) ks r.0 p r.1 r.2;
       no_from = λ grounds ks p some f.
-          counted_in grounds ks some ∙ at_no grounds 0 1 ks (p - 1) (next_of (rising_ground grounds) ks p f) ∙ ap No (omega (arith, f.some));
+          counted_in grounds ks some ∙ at_no grounds 0 1 ks (p - 1) (next_of (rising_ground grounds) ks p f) ∙ ap Err (omega (arith, f.some));
     }
 
--- gauges that are all ground are all kept
-kept_all : (f : ℕ → Bool) (ks : List ℕ) → all_of f ks ≡ true → filter f ks ≡ ks
-kept_all f [] h = refl
-kept_all f (k ∷ ks) h =
-    let p = and_parts (f k) _ h in
-    rw p.0 (ap (λ js. k ∷ js) (kept_all f ks p.1))
-
 -- one section more
-module _ {G : Type 0} (means : G → Meaning) (g : SectionGrid G) (law : Lawful (means g.below)) (limit : ℕ) (s : Section) (add : Addable means g (gauges_in s) limit s) where
-  abbrev under : Meaning
-  under = means g.below
+pub one_section : {G : Type 0} {T : Ghosts G} (g : SectionGrid G T) (law : Lawful (T.meaning g.below)) (ks : List ℕ) (limit : ℕ) (s : ArrayVec ℕ) (l : Limit) → Addable g ks limit s l
+    → extended (T.meaning g.below) (section_gauges (g.sections.items ++ (s ∷ []))) (g.rooms.items ++ (limit_room limit ∷ [])) ≡ extended (over g) (ks ∷ []) (limit_room limit ∷ [])
+one_section {T = T} g law ks limit s l add =
+    let under : Meaning = T.meaning g.below in
+    let added : List (List ℕ) = section_gauges g.sections.items in
+    let rooms : List Watts = g.rooms.items ++ (limit_room limit ∷ []) in
+    ap (λ os. extended under os rooms) (map_push (λ (x : ArrayVec ℕ). x.items) g.sections.items s ∙ ap (λ is. added ++ (is ∷ [])) add.gauges)
+    ∙ one_more under added g.rooms.items law ks (limit_room limit) (and_parts (rising_from 0 ks) _ add.grounded).1
 
-  abbrev more_sections : List Section
-  more_sections = set g.sections g.count s
-
-  abbrev more_rooms : List Watts
-  more_rooms = set g.rooms g.count (limit_room limit)
-
-  all_count : here means g ≡ g.count
-  all_count = omega (arith, add.few_in_all, in_all_of means g law, law.few)
-
-  one_counts : counted (gauges_of under) (g.count + 1) ≡ g.count + 1
-  one_counts = omega (arith, add.few_in_all, in_all_of means g law, all_count)
-
-  ground_only : ground_in under.grounds s ≡ gauges_in s
-  ground_only = kept_all (λ k. ltb k under.grounds) (gauges_in s) (and_parts (rising_from 0 (gauges_in s)) _ add.grounded).1
-
-  sections_are : overs under more_sections (g.count + 1) ≡ overs under g.sections g.count ++ (gauges_in s ∷ [])
-  sections_are =
-      let low : g.count < length g.sections = omega (arith, add.few, g.section_places) in
-      ap (map (ground_in under.grounds)) (take_more_set g.sections g.count s low)
-      ∙ map_push (ground_in under.grounds) (take g.count g.sections) s
-      ∙ ap (λ ks. overs under g.sections g.count ++ (ks ∷ [])) ground_only
-
-  rooms_are : take (g.count + 1) more_rooms ≡ take g.count g.rooms ++ (limit_room limit ∷ [])
-  rooms_are = take_more_set g.rooms g.count (limit_room limit) (omega (arith, add.few, g.room_places))
-
-  pub one_section : stacked under more_sections more_rooms (counted (gauges_of under) (g.count + 1)) ≡ extended (over means g) (gauges_in s ∷ []) (limit_room limit ∷ [])
-  one_section =
-      ap (stacked under more_sections more_rooms) one_counts
-      ∙ ap (λ os. extended under os (take (g.count + 1) more_rooms)) sections_are
-      ∙ ap (extended under (overs under g.sections g.count ++ (gauges_in s ∷ []))) rooms_are
-      ∙ one_more under (overs under g.sections g.count) (take g.count g.rooms) law (gauges_in s) (limit_room limit) (and_parts (rising_from 0 (gauges_in s)) _ add.grounded).1
-      ∙ ap (λ n. extended (stacked under g.sections g.rooms n) (gauges_in s ∷ []) (limit_room limit ∷ [])) (sym all_count)
+-- a grid without sections
+pub no_sections : (m : Meaning) (ss : List (ArrayVec ℕ)) (rs : List Watts) → ss ≡ [] → rs ≡ [] → extended m (section_gauges ss) rs ≡ m
+no_sections m ss rs sections rooms = ap (λ xs. extended m (section_gauges xs) rs) sections ∙ ap (extended m []) rooms ∙ none_added m

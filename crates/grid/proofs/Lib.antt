@@ -1,5 +1,7 @@
-pub mod Rows
+pub mod Weights
 pub mod Making
-pub mod StackBookings
 pub mod Adding
 pub mod Answering
+pub mod Carrying
+pub mod LegBookings
+pub mod StackBookings

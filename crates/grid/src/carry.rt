@@ -7,12 +7,7 @@ use crate::grid::Grid;
 fn has_room_for_one<G: Grid>(grid: &G, path: usize) -> bool
     ensures { result ≡ has_room (G.meaning grid.now) path (record { 0 = 1 }) }
 {
-    for gauge in 0..grid.gauges() {
-        if grid.room(gauge).0 < grid.weight(path, gauge).0 {
-            return false;
-        }
-    }
-    true
+    (0..grid.gauges()).all(|gauge| grid.weight(path, gauge) <= grid.room(gauge))
 }
 
 // Whether a known path can carry 1 MW.

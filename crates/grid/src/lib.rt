@@ -5,15 +5,13 @@ mod add;
 pub mod carry;
 pub mod grid;
 pub mod laws;
-mod layers;
 pub mod leg_gauges;
 pub mod legs;
 mod make;
 pub mod question;
 mod rooms;
-mod row;
-mod section;
 pub mod section_gauges;
+mod section_weights;
 pub mod sections;
 mod weigh;
 #[cfg(test)]
@@ -29,6 +27,8 @@ mod tests {
     use crate::wide::Wide;
     use rules::fault::Fault;
     use rules::power::Mw;
+    use sheet::leg::LegFigures;
+    use sheet::node::NodeFigures;
     use sheet::sheet::Sheet;
     use std::alloc::Global;
     use std::process::Abort;
@@ -65,15 +65,31 @@ mod tests {
         assert_eq!(rt; grid.weight(path, weights.len()).0, 0);
     }
 
+    fn leg(from: u32, to: u32, rate: u32, limit: u32) -> LegFigures {
+        LegFigures {
+            from,
+            to,
+            rate,
+            tariff: 0,
+            limit,
+        }
+    }
+
     // Legs of 100, 50 and 10 MW; a path along the first, one along the first two, and one along the third.
     fn three_legs(rt: &impl Abort, heap: Global) -> Result<LegGrid, Fail> {
         let mut sheet = Sheet::new(heap)?;
         for province in 0..3 {
-            assert!(rt; sheet.enter_node(province, 0, 0, 0).is_ok());
+            let node = NodeFigures {
+                province,
+                standalone: 0,
+                tight: 0,
+                congested: 0,
+            };
+            assert!(rt; sheet.enter_node(node).is_ok());
         }
-        assert!(rt; sheet.enter_leg(0, 1, 50_000, 0, 100).is_ok());
-        assert!(rt; sheet.enter_leg(1, 2, 20_000, 0, 50).is_ok());
-        assert!(rt; sheet.enter_leg(0, 2, 0, 0, 10).is_ok());
+        assert!(rt; sheet.enter_leg(leg(0, 1, 50_000, 100)).is_ok());
+        assert!(rt; sheet.enter_leg(leg(1, 2, 20_000, 50)).is_ok());
+        assert!(rt; sheet.enter_leg(leg(0, 2, 0, 10)).is_ok());
         assert!(rt; sheet.enter_path(&[0]).is_ok());
         assert!(rt; sheet.enter_path(&[0, 1]).is_ok());
         assert!(rt; sheet.enter_path(&[2]).is_ok());

@@ -1,27 +1,28 @@
-ghost use Rattle.std.specs.Prelude.{◌≡◌, IfOk};
-ghost use Rattle.rules.specs.LegGrids.{leg_grid};
+ghost use Rattle.std.specs.Prelude.{◌≡◌, map, IfOk};
+ghost use Rattle.rules.specs.LegGrids.{leg_grid, limit_room};
 ghost use Rattle.sheet.specs.Sheets.{drawing};
 ghost use Rattle.grid.specs.Legs.{on_legs, RoomsOf, RowsOf};
 
-use crate::legs::LegGrid;
-use crate::rooms::room_of;
-use crate::row::Row;
+use crate::legs::{LegGrid, Row};
 use crate::weigh::row_of;
 use rules::power::Watts;
+use sheet::leg::Leg;
 use sheet::sheet::Sheet;
 use std::alloc::{AllocError, Global};
 
+// The limits of some legs as rooms.
+fn rooms_of(heap: Global, legs: &[Leg]) -> Result<Vec<Watts>, AllocError>
+    ensures { IfOk result (λ v. v.items ≡ map (λ l. limit_room l.limit.mw) legs.now) }
+{
+    legs.iter().map(|leg| Watts::from(leg.limit)).collect(heap)
+}
+
 // Each leg's limit as a room.
+#[tactic(auto, using(crate::proofs::Making::sheet_rooms))]
 fn leg_rooms(heap: Global, sheet: &Sheet) -> Result<Vec<Watts>, AllocError>
     ensures { IfOk result (λ v. RoomsOf (drawing sheet.now) v.items) }
 {
-    let mut rooms = Vec::with_capacity(heap, sheet.leg_count())?;
-    let mut number = 0;
-    while let Some(leg) = sheet.leg(number) {
-        rooms.push_reserved(room_of(leg.limit));
-        number += 1;
-    }
-    Ok(rooms)
+    rooms_of(heap, sheet.legs())
 }
 
 // Each path's weights.
@@ -29,16 +30,15 @@ fn leg_rows(heap: Global, sheet: &Sheet) -> Result<Vec<Row>, AllocError>
     ensures { IfOk result (λ v. RowsOf (drawing sheet.now) v.items) }
 {
     let mut rows = Vec::with_capacity(heap, sheet.path_count())?;
-    let mut number = 0;
-    while let Some(path) = sheet.path(number) {
-        rows.push_reserved(row_of(path.passages()));
-        number += 1;
+    for path in sheet.paths() {
+        rows.push(row_of(heap, path.passages(), sheet.leg_count())?)?;
     }
     Ok(rows)
 }
 
 impl LegGrid {
     // The grid of a sheet's legs, with each leg's limit as its first room.
+    #[tactic(auto, using(crate::proofs::Making::even_rows, crate::proofs::Making::made_of))]
     pub fn new(heap: Global, sheet: &Sheet) -> Result<LegGrid, AllocError>
         ensures { IfOk result (λ g. on_legs g ≡ leg_grid (drawing sheet.now)) }
     {

@@ -4,23 +4,18 @@ ghost use Rattle.grid.specs.Numbers.{number};
 // What is asked of a section that is to be added, and of MW that are to be booked.
 #[derive(Clone, Copy, PartialEq, Eq, Debug)]
 pub enum GridQuestion {
-    SectionCount,
-    SectionGauges,
-    SectionLimit,
-    BookingPath,
-    BookingRoom,
+    SectionCount = 15,
+    SectionGauges = 16,
+    SectionLimit = 17,
+    BookingPath = 18,
+    BookingRoom = 19,
 }
 
 impl GridQuestion {
+    // The number that a fault is told by. Each enum of questions has this line, since `as` takes no type parameter; a trait would have it too.
     pub fn number(self) -> u32
         ensures { result ≡ number self }
     {
-        match self {
-            GridQuestion::SectionCount => 15,
-            GridQuestion::SectionGauges => 16,
-            GridQuestion::SectionLimit => 17,
-            GridQuestion::BookingPath => 18,
-            GridQuestion::BookingRoom => 19,
-        }
+        self as u32
     }
 }

@@ -1,43 +1,25 @@
 ghost use Rattle.std.specs.Prelude.{◌≡◌, ◌<◌, true, false, MatchOption};
-ghost use Rattle.rules.specs.Grids.{paths_of, has_room};
+ghost use Rattle.rules.specs.Grids.{paths_of, enough, has_room};
 ghost use Rattle.grid.specs.Bookings.{Books};
-ghost use Rattle.grid.specs.Sections.{over, section_weights, sections_fit};
+ghost use Rattle.grid.specs.Sections.{over, section_weights, FittingWeights};
 ghost use Rattle.grid.specs.Stacks;
 
 use crate::grid::Grid;
 use crate::question::GridQuestion;
 use crate::rooms::{all_enough, lower};
 use crate::sections::SectionGrid;
+use arrayvec::ArrayVec;
 use rules::fault::Fault;
 use rules::power::{Mw, Watts};
 
 impl<G: Grid> SectionGrid<G> {
-    // How many paths there are: as many as below.
-    fn path_count(&self) -> usize
-        ensures below { result ≡ paths_of (G.meaning self.now.below) }
-        ensures whole { result ≡ paths_of (over G.meaning self.now) }
+    // What a known path weighs on each section, if every section has room for so many MW along it.
+    fn fitting_weights(&self, path: usize, mw: Mw) -> Option<ArrayVec<Watts, 8>>
+        requires { path < paths_of (G.meaning self.now.below) }
+        ensures { MatchOption result (has_room (over self.now) path mw ≡ false) (FittingWeights self.now path mw) }
     {
-        self.below.paths()
-    }
-
-    // What a path weighs on each place for a section.
-    fn section_weights(&self, path: usize) -> [Watts; 8]
-        ensures { result ≡ section_weights (G.meaning self.now.below) self.now.sections path }
-    {
-        let mut weights = [Watts(0); 8];
-        for section in 0..8 {
-            weights[section] = self.section_weight(path, &self.sections[section]);
-        }
-        weights
-    }
-
-    // What a path weighs on each place for a section, if every section has room for so many MW along it.
-    fn fitting_weights(&self, path: usize, mw: Mw) -> Option<[Watts; 8]>
-        ensures { MatchOption result (path < paths_of (G.meaning self.now.below) → has_room (over G.meaning self.now) path mw ≡ false) (λ ws. (ws ≡ section_weights (G.meaning self.now.below) self.now.sections path) × (sections_fit G.meaning self.now path mw ≡ true)) }
-    {
-        let above = self.layers().1;
         let weights = self.section_weights(path);
-        if !all_enough(&self.rooms[0..above], &weights[0..above], mw) {
+        if !all_enough(self.rooms.as_slice(), weights.as_slice(), mw) {
             return None;
         }
         Some(weights)
@@ -47,34 +29,28 @@ impl<G: Grid> SectionGrid<G> {
     fn book_through(
         &mut self,
         path: usize,
-        weights: &[Watts; 8],
+        weights: &[Watts],
         mw: Mw,
     ) -> Result<(), Fault<GridQuestion>>
-        requires weights { weights.now ≡ section_weights (G.meaning self.old.below) self.old.sections path }
         requires path { path < paths_of (G.meaning self.old.below) }
-        requires enough { sections_fit G.meaning self.old path mw ≡ true }
-        ensures books { Books (over G.meaning self.old) (over G.meaning self.new) path mw result }
-        ensures sections { self.new.count ≡ self.old.count }
+        requires weights { weights.now ≡ section_weights (G.meaning self.old.below) self.old.sections.items path }
+        requires enough { enough mw self.old.rooms.items weights.now ≡ true }
+        ensures books { Books (over self.old) (over self.new) path mw result }
+        ensures sections { self.new.sections ≡ self.old.sections }
     {
-        let above = self.layers().1;
-        match self.below.book(path, mw) {
-            Ok(()) => {
-                lower(&mut self.rooms[0..above], &weights[0..above], mw);
-                Ok(())
-            }
-            Err(fault) => Err(fault),
-        }
+        self.below.book(path, mw)?;
+        lower(self.rooms.as_mut_slice(), weights, mw);
+        Ok(())
     }
 }
 
 impl<G: Grid> Grid for SectionGrid<G> {
-    ghost meaning = { over G.Grid.meaning };
+    ghost meaning = { over };
 
-    ghost lawful = { λ s. Stacks.lawful G.Grid.meaning s (G.Grid.lawful s.below) };
+    ghost lawful = { λ s. Stacks.lawful s (G.Grid.lawful s.below) };
 
     fn gauges(&self) -> usize {
-        let (below, above) = self.layers();
-        below + above
+        self.below.gauges() + self.rooms.len()
     }
 
     fn ground_gauges(&self) -> usize {
@@ -82,40 +58,38 @@ impl<G: Grid> Grid for SectionGrid<G> {
     }
 
     fn paths(&self) -> usize {
-        self.path_count()
+        self.below.paths()
     }
 
     fn room(&self, gauge: usize) -> Watts {
-        let (below, _) = self.layers();
+        let below = self.below.gauges();
         if gauge < below {
             return self.below.room(gauge);
         }
-        self.room_above(gauge)
+        let room = self.rooms.as_slice().get(gauge - below);
+        room.copied().unwrap_or_default()
     }
 
     fn weight(&self, path: usize, gauge: usize) -> Watts {
-        if gauge < self.layers().0 {
+        if gauge < self.below.gauges() {
             return self.below.weight(path, gauge);
         }
-        self.weight_above(path, gauge)
+        match self.sections.as_slice().get(gauge - self.below.gauges()) {
+            Some(section) => self.weight_over(path, section.as_slice()),
+            None => Watts(0),
+        }
     }
 
     fn book(&mut self, path: usize, mw: Mw) -> Result<(), Fault<GridQuestion>>
-        ensures books { Books (over G.meaning self.old) (over G.meaning self.new) path mw result }
-        ensures sections { self.new.count ≡ self.old.count }
+        ensures books { Books (over self.old) (over self.new) path mw result }
+        ensures sections { self.new.sections ≡ self.old.sections }
     {
-        if path >= self.path_count() {
-            return Err(Fault {
-                question: GridQuestion::BookingPath,
-                place: 0,
-            });
+        if path >= self.below.paths() {
+            return Err(GridQuestion::BookingPath.into());
         }
         let Some(weights) = self.fitting_weights(path, mw) else {
-            return Err(Fault {
-                question: GridQuestion::BookingRoom,
-                place: 0,
-            });
+            return Err(GridQuestion::BookingRoom.into());
         };
-        self.book_through(path, &weights, mw)
+        self.book_through(path, weights.as_slice(), mw)
     }
 }

@@ -1,27 +1,48 @@
-ghost use Rattle.std.specs.Prelude.{◌≡◌, ◌≤◌, true, length, nat_le};
+ghost use Rattle.std.specs.Prelude.{◌≡◌, ◌+◌, ◌≤◌, true, [], length, nat_le};
+ghost use Rattle.rules.specs.Grids.{gauges_of, rising_ground};
 ghost use Rattle.rules.specs.Lists.{all_of};
 
-use crate::section::Section;
+use crate::grid::Grid;
+use arrayvec::ArrayVec;
 use rules::power::Watts;
 
-// A grid with up to 8 sections above it: each is one limit over some of the ground gauges below.
-#[derive(Drop)]
-pub struct SectionGrid<G> {
+// The gauges that a section is over.
+pub(crate) type Section = ArrayVec<u32, 16>;
+
+// A grid with up to 8 sections above it: each is one limit over some of the ground gauges below. Booking moves the rooms and
+// leaves the sections, so they lie apart; every grid's rooms are lowered by one function over a slice.
+#[derive(Debug, Drop)]
+pub struct SectionGrid<G: Grid> {
     pub(crate) below: G,
-    pub(crate) sections: [Section; 8],
-    pub(crate) rooms: [Watts; 8],
-    pub(crate) count: usize,
-    ghost few: { count ≤ 8 },
-    ghost section_places: { length sections ≡ 8 },
-    ghost room_places: { length rooms ≡ 8 },
-    ghost roomy: { all_of (λ w. nat_le w.0 100000000000) rooms ≡ true },
+    pub(crate) sections: ArrayVec<Section, 8>,
+    pub(crate) rooms: ArrayVec<Watts, 8>,
+    ghost few: { length sections.items ≤ 8 },
+    ghost as_many: { length sections.items ≡ length rooms.items },
+    ghost fits: { gauges_of (G.meaning below) + length rooms.items ≤ 256 },
+    ghost grounded: { all_of (λ s. rising_ground (G.meaning below).grounds s.items) sections.items ≡ true },
+    ghost roomy: { all_of (λ w. nat_le w.0 100000000000) rooms.items ≡ true },
 }
 
-impl<G> SectionGrid<G> {
+impl<G: Grid> SectionGrid<G> {
+    ghost use Rattle.grid.specs.Sections.{over};
+
+    // The grid without sections of its own.
+    #[tactic(auto, using(crate::proofs::Adding::no_sections))]
+    pub fn new(below: G) -> SectionGrid<G>
+        ensures means { over result ≡ G.meaning below }
+        ensures sections { result.sections.items ≡ [] }
+    {
+        SectionGrid {
+            below,
+            sections: ArrayVec::new(),
+            rooms: ArrayVec::new(),
+        }
+    }
+
     // How many sections were added here.
     pub fn section_count(&self) -> usize
-        ensures { result ≡ self.now.count }
+        ensures { result ≡ length self.now.sections.items }
     {
-        self.count
+        self.sections.len()
     }
 }

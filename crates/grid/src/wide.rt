@@ -7,7 +7,7 @@ use rules::fault::Fault;
 use rules::power::{Mw, Watts};
 
 // For tests: a grid of so many ground gauges without room, and no paths.
-#[derive(Drop)]
+#[derive(Debug, Drop)]
 pub(crate) struct Wide {
     count: usize,
     ghost few: { count ≤ 256 },
@@ -47,9 +47,6 @@ impl Grid for Wide {
     }
 
     fn book(&mut self, _path: usize, _mw: Mw) -> Result<(), Fault<GridQuestion>> {
-        Err(Fault {
-            question: GridQuestion::BookingPath,
-            place: 0,
-        })
+        Err(GridQuestion::BookingPath.into())
     }
 }

@@ -1,16 +1,9 @@
 use Rattle.std.proofs.Common.{sym, ◌∙◌}
-use Rattle.grid.proofs.StackBookings.{short, part_fits}
+use Rattle.grid.proofs.StackBookings.{short}
 use Rattle.grid.proofs.sections.SectionGrid.fitting_weights.Goals as goal
 
 pub returns-then-not-all_enough : goal.returns-then-not-all_enough
-returns-then-not-all_enough g c real =
+returns-then-not-all_enough g c =
     let s = c.args.self.now in
-    let means = g.G.Grid.meaning in
-    let fits = part_fits means s c.args.path c.args.mw c.layers-above.result.1 c.section_weights-weights.result c.layers-above.ensures.above c.section_weights-weights.ensures in
-    short means s (g.met.G.Grid.lawful s.below) c.args.path real c.args.mw (sym fits ∙ sym c.if-not-all_enough.ensures)
-
-pub returns : goal.returns
-returns g c =
-    let s = c.args.self.now in
-    let fits = part_fits g.G.Grid.meaning s c.args.path c.args.mw c.layers-above.result.1 c.section_weights-weights.result c.layers-above.ensures.above c.section_weights-weights.ensures in
-    (c.section_weights-weights.ensures, sym fits ∙ sym c.if-not-all_enough.ensures)
+    short s (g.met.G.Grid.lawful s.below) c.args.path c.requires c.args.mw c.as_slice.result.now c.as_slice-2.result.now c.as_slice.ensures.value (c.as_slice-2.ensures.value ∙ c.section_weights-weights.ensures)
+    (sym c.all_enough.ensures ∙ c.if-not-all_enough.true)
