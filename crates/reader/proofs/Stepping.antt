@@ -1,45 +1,27 @@
--- One line, step by step.
-use Rattle.std.proofs.Common.{◌≡◌, ℕ, true, false, List, ◌∷◌, is_some, Some, None, Ok, Err, Option, unwrap_or, refl, ap, ◌∙◌, arith}
-use Rattle.std.specs.Option.{option_map}
+-- Lines step by step, and outcomes whose error was told otherwise.
+use Rattle.std.proofs.Common.{◌≡◌, ℕ, ◌+◌, List, ◌∷◌, Some, None, Ok, Err, Option, Result, MatchResult, sym, refl, ap, ◌∙◌, arith}
 use Rattle.rules.specs.Network.{Drawing}
-use Rattle.rules.specs.Questions.{asked, answered, first_no, answer_to}
-use Rattle.rules.specs.declared.fault.Answer.{Answer}
+use Rattle.rules.specs.Questions.{answer_to}
 use Rattle.rules.specs.declared.fault.Fault.{Fault}
-use Rattle.sheet.specs.declared.question.SheetQuestion.{SheetQuestion}
-use Rattle.text.specs.declared.question.TextQuestion.TheVariants.{KnownWord}
-use Rattle.text.specs.declared.word.Word.{Word}
-use Rattle.reader.specs.Case.{moves, figure_questions, text_first, sheet_questions, acting_questions, acted, entered, of_sheet, is_past, Step, ends, unless, said_step}
-use Rattle.reader.specs.Order.{next_stage}
+use Rattle.reader.specs.Case.{Step, ends, fails, leads, line_step, at_line, read_lines}
+use Rattle.reader.specs.declared.fault.CaseFault.{CaseFault}
 use Rattle.reader.specs.declared.stage.Stage.{Stage}
-use Rattle.reader.specs.declared.stage.Stage.TheVariants.{Nodes, Legs, Paths, Past}
 
-pub none_from_ok : {Q A : Type 0} (o : Option (Fault Q)) (a b : A) → Ok b ≡ answer_to o a → o ≡ None
-none_from_ok None a b e = refl
-none_from_ok (Some f) a b e = absurd (let z : ◌≡◌ {A = ℕ} 0 1 = cc in omega arith)
+-- what lines do in turn, by the step of the first, and those after it
+abbrev pub follow : ℕ → Drawing → List (List ℕ) → Step → Result Drawing CaseFault
+follow n d ls s = elim s [ ends ↦ Ok d | fails f ↦ Err (at_line n f) | leads t e ↦ read_lines (n + 1) t e ls ]
+
+-- a line that is carried out leads on to the lines after it
+pub leads_on : (n m k : ℕ) (st st' : Stage) (d d' : Drawing) (l : List ℕ) (ls left : List (List ℕ)) → (m ≡ n) × (k ≡ m + 1) → left ≡ l ∷ ls → line_step st d l ≡ leads st' d' → read_lines k st' d' ls ≡ read_lines n st d left
+leads_on n m k st st' d d' l ls left next first is =
+    let number : k ≡ n + 1 = omega (arith, next.0, next.1) in
+    ap (λ i. read_lines i st' d' ls) number ∙ sym (ap (read_lines n st d) first ∙ ap (follow n d ls) is)
 
 pub some_from_err : {Q A : Type 0} (o : Option (Fault Q)) (a : A) (f : Fault Q) → Err f ≡ answer_to o a → o ≡ Some f
 some_from_err None a f e = absurd (let z : ◌≡◌ {A = ℕ} 0 1 = cc in omega arith)
 some_from_err (Some g) a f e = cc
 
-pub not_past : (st : Stage) → (st ≡ Past → ⊥) → is_past (Some st) ≡ false
-not_past Nodes h = refl
-not_past Legs h = refl
-not_past Paths h = refl
-not_past Past h = absurd (h refl)
-
-module _ (st : Stage) (d : Drawing) (count : ℕ) (each : Answer) (figs : List ℕ) where
-  -- a line's step as a function of its word, and of the stage that the word leads to
-  abbrev step_at : Option Word → Option Stage → Step
-  step_at x y =
-      elim (is_past y) [ true ↦ ends | false ↦ unless (text_first (first_no (asked KnownWord (answered (is_some y)) ∷ figure_questions x count each)) (first_no (acting_questions d x figs))) (unwrap_or y st) (acted d x figs) ]
-
-  -- of a line that passes the questions of the text, by the first question of the sheet that it fails
-  pub step_is : (x : Option Word) (w : Word) (st' : Stage) (o : Option (Fault SheetQuestion)) → x ≡ Some w → next_stage st w ≡ Some st' → (st' ≡ Past → ⊥)
-      → first_no (figure_questions (Some w) count each) ≡ None → first_no (sheet_questions d w figs) ≡ o
-      → said_step st d x count each figs ≡ unless (option_map of_sheet o) st' (entered d w figs)
-  step_is x w st' o known goes np fine is =
-      ap (λ y. step_at y (moves st y)) known
-      ∙ ap (step_at (Some w)) goes
-      ∙ ap (λ b. elim b [ true ↦ ends | false ↦ unless (text_first (first_no (figure_questions (Some w) count each)) (first_no (sheet_questions d w figs))) st' (entered d w figs) ]) (not_past st' np)
-      ∙ ap (λ t. unless (text_first t (first_no (sheet_questions d w figs))) st' (entered d w figs)) fine
-      ∙ ap (λ t. unless (option_map of_sheet t) st' (entered d w figs)) is
+-- an outcome whose error was told otherwise, and that is no Ok, was an error before
+pub was_err : {T E D : Type 0} (made : Result T E) (d : D) (told : E → Type 0) → MatchResult made (λ y. ◌≡◌ {A = Result T D} (Err d) (Ok y)) told → (e : E) × (made ≡ Err e) × told e
+was_err (Ok y) d told h = absurd (let z : ◌≡◌ {A = ℕ} 0 1 = cc in omega arith)
+was_err (Err e) d told h = (e, refl, h)

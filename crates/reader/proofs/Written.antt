@@ -6,7 +6,6 @@ use Rattle.rules.specs.Lists.{all_of}
 use Rattle.rules.specs.Network.{Drawing}
 use Rattle.rules.specs.Questions.{each_from}
 use Rattle.rules.specs.declared.fault.Fault.{Fault}
-use Rattle.rules.specs.declared.fault.Answer.TheVariants.{Yes}
 use Rattle.rules.proofs.Asking.{each_on}
 use Rattle.text.specs.Figures.{is_figure, value}
 use Rattle.text.specs.Format.{join_words, lacks, unbroken}
@@ -17,6 +16,7 @@ use Rattle.text.proofs.Reading.{figure_some}
 use Rattle.text.proofs.Written.{decimal_is_figure, figure_back, decimal_whole, word_back, spelled_whole}
 use Rattle.reader.specs.Case.{first_word, figure_words, figures_of, said_step, read_lines, line_step, at_line, Step, ends, fails, leads}
 use Rattle.reader.specs.Format.{CaseLine, takes, take_lines, FirstFault, short_figures, written_line, said_by, line_said, ReadingStands}
+use Rattle.reader.proofs.Stepping.{follow}
 use Rattle.reader.specs.declared.fault.CaseFault.{CaseFault}
 use Rattle.reader.specs.declared.fault.Question.{Question}
 use Rattle.reader.specs.declared.stage.Stage.{Stage}
@@ -38,7 +38,7 @@ values_back (n ∷ ns) h =
     let e : value (decimal n) ≡ n = sym (figure_some (decimal n) n (figure_back n (ltb-true n 1000000000 p.0))).1 in
     ap (λ m. m ∷ map value (map decimal ns)) e ∙ ap (λ ms. n ∷ ms) (values_back ns p.1)
 
-figures_fine : (k : ℕ) (ns : List ℕ) → all_of (λ n. ltb n 1000000000) ns ≡ true → each_from k is_figure (map decimal ns) ≡ Yes
+figures_fine : (k : ℕ) (ns : List ℕ) → all_of (λ n. ltb n 1000000000) ns ≡ true → each_from k is_figure (map decimal ns) ≡ Ok tt
 figures_fine k [] h = refl
 figures_fine k (n ∷ ns) h =
     let p = and_parts (ltb n 1000000000) _ h in
@@ -63,7 +63,7 @@ module _ (c : CaseLine) (h : short_figures c ≡ true) where
   figures_said : figure_words (written_line c) ≡ map decimal c.figures
   figures_said = ap (drop 1) (parts_of_line c h)
 
-  each_said : each_from 2 is_figure (figure_words (written_line c)) ≡ Yes
+  each_said : each_from 2 is_figure (figure_words (written_line c)) ≡ Ok tt
   each_said = ap (each_from 2 is_figure) figures_said ∙ figures_fine 2 c.figures h
 
   values_said : figures_of (written_line c) ≡ c.figures
@@ -76,14 +76,14 @@ module _ (c : CaseLine) (h : short_figures c ≡ true) where
   line_back =
       ap (λ o. said_by o (each_from 2 is_figure (figure_words (written_line c))) (figures_of (written_line c))) word_said
       ∙ ap (λ a. said_by (Some c.word) a (figures_of (written_line c))) each_said
-      ∙ ap (λ ns. said_by (Some c.word) Yes ns) values_said
+      ∙ ap (λ ns. said_by (Some c.word) (Ok tt) ns) values_said
 
   step_back : (st : Stage) (d : Drawing) → line_step st d (written_line c) ≡ takes st d c
   step_back st d =
       ap (λ o. said_step st d o (length (figure_words (written_line c))) (each_from 2 is_figure (figure_words (written_line c))) (figures_of (written_line c))) word_said
       ∙ ap (λ k. said_step st d (Some c.word) k (each_from 2 is_figure (figure_words (written_line c))) (figures_of (written_line c))) count_said
       ∙ ap (λ a. said_step st d (Some c.word) (length c.figures) a (figures_of (written_line c))) each_said
-      ∙ ap (λ ns. said_step st d (Some c.word) (length c.figures) Yes ns) values_said
+      ∙ ap (λ ns. said_step st d (Some c.word) (length c.figures) (Ok tt) ns) values_said
 
 lacks-append : (m : ℕ) (a b : List ℕ) → lacks m a ≡ true → lacks m b ≡ true → lacks m (a ++ b) ≡ true
 lacks-append m [] b h k = k
@@ -115,12 +115,9 @@ each_back (c ∷ cs) h =
 not_err : {A B : Type 0} (a : A) (b : B) → Ok a ≡ Err b → ⊥
 not_err a b e = let z : ◌≡◌ {A = ℕ} 0 1 = cc in omega arith
 
--- where a line's step leads, and where that of a line as data does
+-- what lines as data do in turn, by the step of the first
 abbrev taken : ℕ → Drawing → List CaseLine → Step → Result Drawing CaseFault
 taken n d cs s = elim s [ ends ↦ Ok d | fails g ↦ Err (at_line n g) | leads t e ↦ take_lines (n + 1) t e cs ]
-
-abbrev follow : ℕ → Drawing → List (List ℕ) → Step → Result Drawing CaseFault
-follow n d ls s = elim s [ ends ↦ Ok d | fails g ↦ Err (at_line n g) | leads t e ↦ read_lines (n + 1) t e ls ]
 
 acts_alike : (n : ℕ) (st : Stage) (d : Drawing) (cs : List CaseLine) → all_of short_figures cs ≡ true → read_lines n st d (map written_line cs) ≡ take_lines n st d cs
 acts_alike n st d [] h = refl

@@ -2,8 +2,7 @@
 use Rattle.std.specs.Prelude.{◌≡◌, ℕ, ◌+◌, Bool, true, false, List, [], ◌∷◌, map, length, drop, is_some, Some, None, Ok, Err, Option, Result, nat_le, slice_index, slice_index_or}
 use Rattle.std.specs.Option.{option_map, unwrap_or}
 use Rattle.rules.specs.Network.{Drawing, DrawnLeg}
-use Rattle.rules.specs.Questions.{Asked, asked, answered, each_from, first_no}
-use Rattle.rules.specs.declared.fault.Answer.{Answer}
+use Rattle.rules.specs.Questions.{Answer, Asked, asked, answered, each_from, first_no}
 use Rattle.rules.specs.declared.fault.Fault.{Fault}
 use Rattle.sheet.specs.Asks.{node_questions, leg_questions, path_questions, marked, drawn_leg, with_node, with_leg, with_path}
 use Rattle.sheet.specs.Sheets.{drawing, nothing_drawn, Enters}

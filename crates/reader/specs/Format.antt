@@ -2,9 +2,7 @@
 use Rattle.std.specs.Prelude.{◌≡◌, ℕ, ◌+◌, Bool, true, List, [], ◌∷◌, ◌++◌, map, length, Some, None, Ok, Err, decimal, Option, Result, nat_lt}
 use Rattle.rules.specs.Lists.{all_of}
 use Rattle.rules.specs.Network.{Drawing}
-use Rattle.rules.specs.Questions.{each_from}
-use Rattle.rules.specs.declared.fault.Answer.{Answer}
-use Rattle.rules.specs.declared.fault.Answer.TheVariants.{Yes, No}
+use Rattle.rules.specs.Questions.{Answer, each_from}
 use Rattle.text.specs.Figures.{is_figure}
 use Rattle.text.specs.Format.{join_words, join_lines}
 use Rattle.text.specs.Pieces.{lines}
@@ -32,15 +30,15 @@ written cs = join_lines (map written_line cs)
 -- the line that bytes say: a known word, and figures after it
 abbrev pub said_by : Option Word → Answer → List ℕ → Option CaseLine
 said_by None a figs = None
-said_by (Some w) (No p) figs = None
-said_by (Some w) Yes figs = Some (record { word = w; figures = figs })
+said_by (Some w) (Err p) figs = None
+said_by (Some w) (Ok done) figs = Some (record { word = w; figures = figs })
 
 abbrev pub line_said : List ℕ → Option CaseLine
 line_said l = said_by (word_of (first_word l)) (each_from 2 is_figure (figure_words l)) (figures_of l)
 
 -- what a line does, by its word and figures, and what lines do in turn
 abbrev pub takes : Stage → Drawing → CaseLine → Step
-takes st d c = said_step st d (Some c.word) (length c.figures) Yes c.figures
+takes st d c = said_step st d (Some c.word) (length c.figures) (Ok tt) c.figures
 
 abbrev pub take_lines : ℕ → Stage → Drawing → List CaseLine → Result Drawing CaseFault
 take_lines n st d [] = Ok d

@@ -1,19 +1,22 @@
-ghost use Rattle.std.specs.Prelude.{◌≡◌};
+ghost use Rattle.std.specs.Prelude.{◌≡◌, Some};
+ghost use Rattle.reader.specs.Case.{at_line};
 ghost use Rattle.reader.specs.Faults.{layer_of, number_of};
+ghost use Rattle.reader.specs.Report.{fault_text};
 
-use rules::fault::Layer;
+use rules::fault::{Fault, Layer};
 use sheet::question::SheetQuestion;
+use std::fmt;
 use text::question::TextQuestion;
 
 // What is asked of a case.
-#[derive(Clone, Copy)]
+#[derive(Clone, Copy, PartialEq, Eq, Debug)]
 pub enum Question {
     Text(TextQuestion),
     Sheet(SheetQuestion),
 }
 
 // The first question whose answer is no, with its line, 0 where it is asked of the whole text, and its place.
-#[derive(Clone, Copy)]
+#[derive(Clone, Copy, PartialEq, Eq, Debug)]
 pub struct CaseFault {
     pub question: Question,
     pub line: usize,
@@ -37,5 +40,30 @@ impl Question {
             Question::Text(question) => question.number(),
             Question::Sheet(question) => question.number(),
         }
+    }
+}
+
+impl CaseFault {
+    // A fault of the line of this number.
+    pub(crate) fn at(line: usize, fault: Fault<Question>) -> CaseFault
+        ensures { result ≡ at_line line fault }
+    {
+        CaseFault {
+            question: fault.question,
+            line,
+            place: fault.place,
+        }
+    }
+}
+
+// A fault as its line prints it.
+impl fmt::Display for CaseFault {
+    ghost output = { λ fault. Some (fault_text fault) };
+
+    fn fmt<W: fmt::Write>(&self, f: &mut fmt::Formatter<W>) -> fmt::Result {
+        let layer = self.question.layer();
+        let number = self.question.number();
+        let (line, place) = (self.line, self.place);
+        write!(f, "fault {layer} {number} {line} {place}")
     }
 }

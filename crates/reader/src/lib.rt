@@ -5,8 +5,5 @@ mod enter;
 pub mod fault;
 pub mod laws;
 mod line;
-mod lines;
 pub mod read;
-mod report;
 pub mod stage;
-mod steps;

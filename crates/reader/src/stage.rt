@@ -1,11 +1,10 @@
-ghost use Rattle.std.specs.Prelude.{◌≡◌, is_some};
-ghost use Rattle.std.specs.Option.{unwrap_or};
+ghost use Rattle.std.specs.Prelude.{◌≡◌};
 ghost use Rattle.reader.specs.Order.{next_stage};
 
 use text::word::Word;
 
 // How far a case has come in the order of its words.
-#[derive(Clone, Copy)]
+#[derive(Clone, Copy, PartialEq, Eq, Debug)]
 pub enum Stage {
     Nodes,
     Legs,
@@ -14,24 +13,19 @@ pub enum Stage {
 }
 
 impl Stage {
-    // Moves on to the word's stage, or refuses a word out of turn.
-    pub(crate) fn advance(&mut self, word: Word) -> bool
-        ensures answers { result ≡ is_some (next_stage self.old word) }
-        ensures after { self.new ≡ unwrap_or (next_stage self.old word) self.old }
+    // The stage that a line of this word leads to; none where the word is out of turn.
+    pub(crate) fn after(self, word: Word) -> Option<Stage>
+        ensures { result ≡ next_stage self word }
     {
-        *self = match (*self, word) {
-            (Stage::Nodes, Word::Node) => Stage::Nodes,
-            (Stage::Nodes, Word::Leg) => Stage::Legs,
-            (Stage::Legs, Word::Leg) => Stage::Legs,
-            (Stage::Past, Word::Path) => return false,
-            (_, Word::Path) => Stage::Paths,
-            (_, Word::Section) => Stage::Past,
-            (_, Word::Limits) => Stage::Past,
-            (_, Word::Sell) => Stage::Past,
-            (_, Word::Buy) => Stage::Past,
-            (_, Word::Go) => Stage::Past,
-            _ => return false,
-        };
-        true
+        match (self, word) {
+            (Stage::Nodes, Word::Node) => Some(Stage::Nodes),
+            (Stage::Nodes, Word::Leg) => Some(Stage::Legs),
+            (Stage::Legs, Word::Leg) => Some(Stage::Legs),
+            (Stage::Nodes | Stage::Legs | Stage::Paths, Word::Path) => Some(Stage::Paths),
+            (_, Word::Section | Word::Limits | Word::Sell | Word::Buy | Word::Go) => {
+                Some(Stage::Past)
+            }
+            _ => None,
+        }
     }
 }

@@ -1,36 +1,17 @@
-use Rattle.std.proofs.Common.{length, Some, None, sym, ap, ◌∙◌}
-use Rattle.rules.specs.Questions.{each_from, first_no}
-use Rattle.sheet.specs.Sheets.{drawing}
-use Rattle.text.specs.Figures.{is_figure}
-use Rattle.text.specs.Words.{word_of}
-use Rattle.reader.specs.Case.{first_word, figure_words, figures_of, sheet_questions, entered, leads, fails}
-use Rattle.reader.proofs.Stepping.{none_from_ok, some_from_err, step_is}
+use Rattle.std.proofs.Common.{◌≡◌, ◌∙◌, sym, rules}
+use Rattle.std.proofs.lemmas.Result.{err_from_is_err_and}
+use Rattle.rules.proofs.Asking.{was_ok}
+use Rattle.reader.specs.Case.{of_sheet, figures_of}
+use Rattle.reader.proofs.Stepping.{some_from_err, was_err}
 use Rattle.reader.proofs.read.Reader.step.Goals as goal
 
-pub returns-in-Ok : goal.returns-in-Ok
-returns-in-Ok c =
-    let st = c.args.self.now.stage in
-    let d = drawing c.args.self.now.sheet in
-    let l = c.args.line.now in
-    let w = c.in-Some.word in
-    let st' = c.turn.new.stage in
-    let read = c.in_default-line_figures.ensures.figures in
-    let figs = c.as_slice.ensures.value ∙ read.1 in
-    let told = c.in-Ok.ensures in
-    step_is st d (length (figure_words l)) (each_from 2 is_figure (figure_words l)) (figures_of l) (word_of (first_word l)) w st' None c.in-Some.ensures.0 c.in-Some.ensures.1 c.in_default-stage.not-Past read.0
-    (ap (λ fs. first_no (sheet_questions d w fs)) (sym figs) ∙ none_from_ok _ tt _ told.answers)
-    ∙ ap (leads st') (ap (entered d w) (sym figs) ∙ sym told.leaves)
-
-pub returns-in-Err-enter : goal.returns-in-Err-enter
-returns-in-Err-enter c =
-    let st = c.args.self.now.stage in
-    let d = drawing c.args.self.now.sheet in
-    let l = c.args.line.now in
-    let w = c.in-Some.word in
-    let st' = c.turn.new.stage in
-    let read = c.in_default-line_figures.ensures.figures in
-    let figs = c.as_slice.ensures.value ∙ read.1 in
-    let told = c.in-Err-enter.ensures in
-    step_is st d (length (figure_words l)) (each_from 2 is_figure (figure_words l)) (figures_of l) (word_of (first_word l)) w st' (Some c.in-Err-enter.fault) c.in-Some.ensures.0 c.in-Some.ensures.1 c.in_default-stage.not-Past read.0
-    (ap (λ fs. first_no (sheet_questions d w fs)) (sym figs) ∙ some_from_err _ tt c.in-Err-enter.fault told.answers)
-    ∙ ap fails (sym c.of_sheet.ensures)
+pub returns-in_err-map_err-2 : goal.returns-in_err-map_err-2
+returns-in_err-map_err-2 c =
+    let out = err_from_is_err_and c.from_residual-in_err-map_err-2.result c.from_residual-in_err-map_err-2.ensures.1 in
+    let was = was_err c.enter.result c.in_err-map_err-2.field-0.0 _ c.in_err-map_err-2.ensures.cases in
+    let same : c.in_err-map_err-2.field-0.0 ≡ of_sheet was.0 = search rules in
+    let turned = rw c.in_ok-word.ensures.ok_part at c.turn.ensures in
+    let read = rw (was_ok _ c.figures.result _ c.in_ok-map_err.ensures.cases) at c.figures.ensures.figures in
+    let figures : c.as_slice-figures.result.now ≡ figures_of c.args.line.bytes.now = c.as_slice-figures.ensures.value ∙ read.1 in
+    let no = rw figures at (some_from_err _ tt was.0 (sym was.1 ∙ c.enter.ensures.answers)) in
+    rw (out.1, out.2, same) (search rules, search rules, rw was.1 at c.enter.ensures.leaves)
