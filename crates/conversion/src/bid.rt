@@ -9,6 +9,5 @@ use text::number::signed_figure;
 pub fn bid(word: &[u8]) -> Option<Yuan>
     ensures { option_map (λ b. b.whole) result ≡ bid_of word.now }
 {
-    let whole = signed_figure(word)?;
-    Yuan::new(whole)
+    signed_figure(word).and_then(Yuan::new)
 }

@@ -14,6 +14,7 @@ pub(crate) enum Failure {
     Io(io::Error),
 }
 
+// What `main` returns is printed by `Debug`, and a derive would print the variant's name.
 impl fmt::Debug for Failure {
     ghost debug_output = { message_of };
 

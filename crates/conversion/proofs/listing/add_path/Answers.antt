@@ -1,17 +1,16 @@
-use Rattle.std.proofs.Common.{◌++◌, string_bytes, ap, ◌∙◌, append_assoc}
-use Rattle.std.proofs.lemmas.Result.{IfOk-weaker}
+use Rattle.std.proofs.Common.{string_bytes, ◌∙◌}
 use Rattle.sheet.specs.Views.{route_of}
-use Rattle.conversion.specs.Listing.{path_line, claim_lines}
-use Rattle.conversion.specs.Offers.{whole_yuan}
+use Rattle.conversion.proofs.Writing.{claims_on, claims_done, all_written}
 use Rattle.conversion.proofs.listing.add_path.Goals as goal
+
+pub loop-bid-preserved : goal.loop-bid-preserved
+loop-bid-preserved c =
+    claims_on c.args.number (route_of c.args.path.now) c.args.bids.now c.loop-bid.bid-index c.bid-item.result (string_bytes c.loop-bid.out) (string_bytes c.add_claim.new.out)
+    c.loop-bid-test.true c.bid-item.is c.in_ok-add_claim.ensures
+    ∙ c.loop-bid.invariant
 
 pub returns : goal.returns
 returns c =
-    let out = string_bytes c.args.out.now in
-    let r = route_of c.args.path.now in
-    let claims = claim_lines c.args.number r (whole_yuan c.args.bids.now) in
-    IfOk-weaker c.add_claims.result _ _
-    (λ x e. e
-    ∙ ap (λ t. t ++ claims) (c.in_ok-push_str.ensures.bytes ∙ ap (λ l. out ++ l) (c.as_str.ensures.value ∙ c.in_ok-line.ensures))
-    ∙ append_assoc out (path_line c.args.number r) claims)
-    c.add_claims.ensures
+    all_written (string_bytes c.loop-bid.out) _ _
+    (claims_done c.args.number (route_of c.args.path.now) c.args.bids.now c.loop-bid.bid-index c.loop-bid-test.false)
+    c.loop-bid.invariant
