@@ -57,6 +57,6 @@ pub fn convert(heap: Global, text: &[u8], bids: &[Yuan]) -> Result<String, Alloc
 {
     match Reader::new(heap)?.read(text) {
         Ok(sheet) => listing(heap, &sheet, bids),
-        Err(fault) => format!(in heap; "{fault}\n"),
+        Err(fault) => fault.report(heap),
     }
 }

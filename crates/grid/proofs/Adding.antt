@@ -1,6 +1,6 @@
 -- A section's gauges, asked one by one, and one section more.
-use Rattle.std.proofs.Common.{◌≡◌, ℕ, zero, suc, ◌+◌, ◌-◌, ◌<◌, ◌≤◌, Bool, true, false, ◌&&◌, ltb, leb, List, [], ◌∷◌, ◌++◌, take, None, Ok, Err, sym, refl, ap, ◌∙◌, inl, inr, arith}
-use Rattle.std.proofs.lemmas.List.{map_push}
+use Rattle.std.proofs.Common.{◌≡◌, ℕ, zero, suc, ◌+◌, ◌-◌, ◌<◌, ◌≤◌, Bool, true, false, ◌&&◌, ltb, leb, List, [], ◌∷◌, ◌++◌, map, length, take, None, Ok, Err, filter, sym, refl, ap, ◌∙◌, inl, inr, arith}
+use Rattle.std.proofs.lemmas.List.{map_push, length_push, take_all}
 use Rattle.std.proofs.lemmas.Bool.{and_parts, and_from, and_right, le-leb, lt-ltb, cases_Bool, both_ways}
 use Rattle.rules.specs.Grids.{Meaning, Lawful, gauges_of, extended, rising_from, rising_ground}
 use Rattle.rules.specs.LegGrids.{limit_room}
@@ -11,13 +11,13 @@ use Rattle.rules.proofs.Asking.{passes, stops_or_goes, never, asks_on, Next, fai
 use Rattle.rules.proofs.Meanings.{none_added, one_more}
 use Rattle.arrayvec.specs.ArrayVec.{ArrayVec}
 use Rattle.rules.specs.declared.limit.Limit.{Limit}
-use Rattle.grid.specs.declared.grid.Grid.{Ghosts}
 use Rattle.grid.specs.SectionAsks.{one_to_sixteen, gauges_from, gauges_answer, section_questions, Addable}
 use Rattle.grid.specs.SectionLaws.{SectionsStand}
-use Rattle.grid.specs.Sections.{section_gauges, over}
+use Rattle.grid.specs.Sections.{ground_in, counted, overs, stacked, here, over}
 use Rattle.grid.specs.declared.question.GridQuestion.{GridQuestion}
 use Rattle.grid.specs.declared.question.GridQuestion.TheVariants.{SectionCount, SectionGauges, SectionLimit}
 use Rattle.grid.specs.declared.sections.SectionGrid.{SectionGrid}
+use Rattle.grid.specs.Stacks.{in_all_of}
 
 -- the gauges from one on, where it may stand and where it may not
 module _ (grounds n i k : ℕ) (ks : List ℕ) where
@@ -123,16 +123,61 @@ sections_stand_lem =
           counted_in grounds ks some ∙ at_no grounds 0 1 ks (p - 1) (next_of (rising_ground grounds) ks p f) ∙ ap Err (omega (arith, f.some));
     }
 
+-- gauges that are all ground are all kept
+kept_all : (f : ℕ → Bool) (ks : List ℕ) → all_of f ks ≡ true → filter f ks ≡ ks
+kept_all f [] h = refl
+kept_all f (k ∷ ks) h =
+    let p = and_parts (f k) _ h in
+    rw p.0 (ap (λ js. k ∷ js) (kept_all f ks p.1))
+
 -- one section more
-pub one_section : {G : Type 0} {T : Ghosts G} (g : SectionGrid G T) (law : Lawful (T.meaning g.below)) (ks : List ℕ) (limit : ℕ) (s : ArrayVec ℕ) (l : Limit) → Addable g ks limit s l
-    → extended (T.meaning g.below) (section_gauges (g.sections.items ++ (s ∷ []))) (g.rooms.items ++ (limit_room limit ∷ [])) ≡ extended (over g) (ks ∷ []) (limit_room limit ∷ [])
-one_section {T = T} g law ks limit s l add =
-    let under : Meaning = T.meaning g.below in
-    let added : List (List ℕ) = section_gauges g.sections.items in
-    let rooms : List Watts = g.rooms.items ++ (limit_room limit ∷ []) in
-    ap (λ os. extended under os rooms) (map_push (λ (x : ArrayVec ℕ). x.items) g.sections.items s ∙ ap (λ is. added ++ (is ∷ [])) add.gauges)
-    ∙ one_more under added g.rooms.items law ks (limit_room limit) (and_parts (rising_from 0 ks) _ add.grounded).1
+module _ {G : Type 0} (means : G → Meaning) (g : SectionGrid G) (law : Lawful (means g.below)) (ks : List ℕ) (limit : ℕ) (s : ArrayVec ℕ) (l : Limit) (add : Addable means g ks limit s l) where
+  abbrev under : Meaning
+  under = means g.below
+
+  abbrev count : ℕ
+  count = length g.sections.items
+
+  abbrev more_sections : List (ArrayVec ℕ)
+  more_sections = g.sections.items ++ (s ∷ [])
+
+  abbrev more_rooms : List Watts
+  more_rooms = g.rooms.items ++ (limit_room limit ∷ [])
+
+  one_longer : length more_sections ≡ count + 1
+  one_longer = length_push g.sections.items s
+
+  all_count : here means g ≡ count
+  all_count = omega (arith, add.few_in_all, in_all_of means g law, law.few)
+
+  one_counts : counted (gauges_of under) (length more_sections) ≡ length more_sections
+  one_counts = omega (arith, one_longer, add.few_in_all, in_all_of means g law, all_count)
+
+  ground_only : ground_in under.grounds s ≡ ks
+  ground_only = ap (filter (λ k. ltb k under.grounds)) add.gauges ∙ kept_all (λ k. ltb k under.grounds) ks (and_parts (rising_from 0 ks) _ add.grounded).1
+
+  sections_are : overs under more_sections (length more_sections) ≡ overs under g.sections.items count ++ (ks ∷ [])
+  sections_are =
+      ap (map (ground_in under.grounds)) (take_all (length more_sections) more_sections (omega arith))
+      ∙ map_push (ground_in under.grounds) g.sections.items s
+      ∙ ap (λ os. os ++ (ground_in under.grounds s ∷ [])) (ap (map (ground_in under.grounds)) (sym (take_all count g.sections.items (omega arith))))
+      ∙ ap (λ js. overs under g.sections.items count ++ (js ∷ [])) ground_only
+
+  rooms_are : take (length more_sections) more_rooms ≡ take count g.rooms.items ++ (limit_room limit ∷ [])
+  rooms_are =
+      take_all (length more_sections) more_rooms (omega (arith, length_push g.rooms.items (limit_room limit), one_longer, g.as_many))
+      ∙ ap (λ rs. rs ++ (limit_room limit ∷ [])) (sym (take_all count g.rooms.items (omega (arith, g.as_many))))
+
+  pub one_section : stacked under more_sections more_rooms (counted (gauges_of under) (length more_sections)) ≡ extended (over means g) (ks ∷ []) (limit_room limit ∷ [])
+  one_section =
+      ap (stacked under more_sections more_rooms) one_counts
+      ∙ ap (λ os. extended under os (take (length more_sections) more_rooms)) sections_are
+      ∙ ap (extended under (overs under g.sections.items count ++ (ks ∷ []))) rooms_are
+      ∙ one_more under (overs under g.sections.items count) (take count g.rooms.items) law ks (limit_room limit) (and_parts (rising_from 0 ks) _ add.grounded).1
+      ∙ ap (λ n. extended (stacked under g.sections.items g.rooms.items n) (ks ∷ []) (limit_room limit ∷ [])) (sym all_count)
 
 -- a grid without sections
-pub no_sections : (m : Meaning) (ss : List (ArrayVec ℕ)) (rs : List Watts) → ss ≡ [] → rs ≡ [] → extended m (section_gauges ss) rs ≡ m
-no_sections m ss rs sections rooms = ap (λ xs. extended m (section_gauges xs) rs) sections ∙ ap (extended m []) rooms ∙ none_added m
+pub no_sections : (m : Meaning) (ss : List (ArrayVec ℕ)) (rs : List Watts) → ss ≡ [] → stacked m ss rs (counted (gauges_of m) (length ss)) ≡ m
+no_sections m ss rs sections =
+    let none : counted (gauges_of m) (length ss) ≡ 0 = omega (arith, ap length sections) in
+    ap (stacked m ss rs) none ∙ none_added m

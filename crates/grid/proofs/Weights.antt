@@ -1,9 +1,8 @@
--- What a path weighs on legs and sections.
-use Rattle.std.proofs.Common.{◌≡◌, ℕ, ◌+◌, ◌<◌, ◌≤◌, eqb, ◌==◌, List, [], ◌∷◌, ◌++◌, map, length, get_or, take, None, Some, Option, refl, ap, ◌∙◌, inl, inr, arith}
+-- What a path weighs on legs.
+use Rattle.std.proofs.Common.{◌≡◌, ℕ, ◌≤◌, eqb, ◌==◌, List, [], ◌∷◌, map, None, Some, Option, refl, ap, ◌∙◌, inl, inr, arith}
 use Rattle.std.specs.List.{find}
-use Rattle.std.proofs.lemmas.List.{take_more}
 use Rattle.std.proofs.lemmas.Bool.{cases_Bool}
-use Rattle.rules.specs.Grids.{as_watts, weight_over, sum_of}
+use Rattle.rules.specs.Grids.{as_watts, sum_of}
 use Rattle.rules.specs.LegGrids.{enters_leg}
 use Rattle.rules.specs.Lists.{sum_by, below}
 use Rattle.rules.specs.declared.power.Watts.{Watts}
@@ -35,11 +34,3 @@ row_light ps on n laid few =
     let row : sum_of on ≡ sum_by (enters_leg ks es) (below n) = ap sum_of laid ∙ sum_mapped (λ (w : Watts). w.0) (passage_weight ps) (below n) in
     let all : sum_by (λ (m : ℕ). m) es ≡ sum_by (λ (x : Passage). x.enters.0) ps = sum_mapped (λ (m : ℕ). m) (λ (x : Passage). x.enters.0) ps in
     omega (arith, row, all, weighs_what_enters ks es n)
-
--- the sum of weights, one gauge on
-over_push : (ks : List ℕ) (k : ℕ) (ws : List Watts) → (weight_over (ks ++ (k ∷ [])) ws).0 ≡ (weight_over ks ws).0 + (get_or ws k (as_watts 0)).0
-over_push [] k ws = omega arith
-over_push (j ∷ ks) k ws = omega (arith, over_push ks k ws)
-
-pub over_more : (ws : List Watts) (ks : List ℕ) (i : ℕ) → i < length ks → (weight_over (take (i + 1) ks) ws).0 ≡ (weight_over (take i ks) ws).0 + (get_or ws (get_or ks i 0) (as_watts 0)).0
-over_more ws ks i real = ap (λ js. (weight_over js ws).0) (take_more ks i 0 real) ∙ over_push (take i ks) (get_or ks i 0) ws

@@ -1,13 +1,14 @@
--- The grid of legs is lawful.
+-- What the grid of legs tells, and that it is lawful.
 use Rattle.std.specs.Prelude.{◌≡◌, ℕ, zero, suc, ◌<◌, ◌≤◌, true, ◌==◌, List, [], ◌∷◌, map, length, get_or, vec_items, vec_len, nat_le}
 use Rattle.std.proofs.Common.{sym, ap, ◌∙◌, inl, inr, arith, lit≤}
 use Rattle.std.proofs.lemmas.List.{get_or-map, get_or_past, length-map}
 use Rattle.std.proofs.lemmas.Bool.{cases_lt, and_parts, leb-true, eqb-true}
-use Rattle.rules.specs.Grids.{Lawful, paths_of, room_of, weights_of, as_watts, sum_of}
+use Rattle.rules.specs.Grids.{Lawful, paths_of, room_of, weight_of, weights_of, as_watts, sum_of}
 use Rattle.rules.specs.Lists.{all_of}
 use Rattle.rules.specs.declared.power.Watts.{Watts}
 use Rattle.rules.proofs.Alls.{all_of_at}
 use Rattle.rules.proofs.Gauges.{one_of_sum, first_of_sum}
+use Rattle.rules.proofs.Meanings.{beyond}
 use Rattle.grid.specs.Legs.{on_legs}
 use Rattle.grid.specs.declared.legs.LegGrid.{LegGrid}
 use Rattle.grid.specs.declared.legs.Row.{Row}
@@ -18,6 +19,9 @@ module _ (g : LegGrid) where
 
   abbrev rows : List Row
   rows = vec_items g.rows
+
+  pub legs_fit : legs ≤ 64
+  legs_fit = omega (arith, g.few, g.rooms.ok.0)
 
   pub as_many_paths : paths_of (on_legs g) ≡ length rows
   as_many_paths = length-map rows (λ (r : Row). vec_items r.on)
@@ -52,10 +56,17 @@ module _ (g : LegGrid) where
   pub lawful : Lawful (on_legs g)
   lawful =
       record {
-        few = omega (arith, g.few, g.rooms.ok.0);
+        few = omega (arith, legs_fit);
         ground_first = omega arith;
         roomy = roomy;
         narrow = λ p k. omega (arith, one_of_sum (weights_of (on_legs g) p) k, each_light p);
         light = λ p. omega (arith, first_of_sum (weights_of (on_legs g) p) legs, each_light p);
         even = each_even;
       }
+
+  -- nothing is told of an unknown path or leg
+  pub unknown_path : (p k : ℕ) → paths_of (on_legs g) ≤ p → weight_of (on_legs g) p k ≡ as_watts 0
+  unknown_path = (beyond (on_legs g) lawful).paths
+
+  pub unknown_leg : (p k : ℕ) → legs ≤ k → weight_of (on_legs g) p k ≡ as_watts 0
+  unknown_leg = (beyond (on_legs g) lawful).weights

@@ -7,7 +7,6 @@ use Rattle.rules.specs.declared.fault.Fault.{Fault}
 use Rattle.rules.specs.declared.limit.Limit.{Limit}
 use Rattle.arrayvec.specs.ArrayVec.{ArrayVec}
 use Rattle.grid.specs.Sections.{over}
-use Rattle.grid.specs.declared.grid.Grid.{Ghosts}
 use Rattle.grid.specs.declared.question.GridQuestion.{GridQuestion}
 use Rattle.grid.specs.declared.question.GridQuestion.TheVariants.{SectionCount, SectionGauges, SectionLimit}
 use Rattle.grid.specs.declared.sections.SectionGrid.{SectionGrid}
@@ -34,23 +33,23 @@ section_questions sections m ks limit =
     ∷ []))
 
 -- a section that may be added, with its limit
-pub record Addable {G : Type 0} {T : Ghosts G} (g : SectionGrid G T) (ks : List ℕ) (limit : ℕ) (s : ArrayVec ℕ) (l : Limit) : Type 0 where
+pub record Addable {G : Type 0} (means : G → Meaning) (g : SectionGrid G) (ks : List ℕ) (limit : ℕ) (s : ArrayVec ℕ) (l : Limit) : Type 0 where
   pub gauges : s.items ≡ ks
-  pub grounded : rising_ground (over g).grounds ks ≡ true
+  pub grounded : rising_ground (over means g).grounds ks ≡ true
   pub few : length g.sections.items < 8
-  pub few_in_all : gauges_of (over g) < 256
+  pub few_in_all : gauges_of (over means g) < 256
   pub limit_is : l.mw ≡ limit
 
 -- one gauge more over ks, with the limit as its room, and one section more
-pub record OneSectionMore {G : Type 0} {T : Ghosts G} (g h : SectionGrid G T) (ks : List ℕ) (limit : ℕ) : Type 0 where
-  pub gauge : over h ≡ extended (over g) (ks ∷ []) (limit_room limit ∷ [])
+pub record OneSectionMore {G : Type 0} (means : G → Meaning) (g h : SectionGrid G) (ks : List ℕ) (limit : ℕ) : Type 0 where
+  pub gauge : over means h ≡ extended (over means g) (ks ∷ []) (limit_room limit ∷ [])
   pub sections : length h.sections.items ≡ length g.sections.items + 1
 
-abbrev pub AddingLeaves : {G : Type 0} {T : Ghosts G} → SectionGrid G T → SectionGrid G T → List ℕ → ℕ → Result ℕ (Fault GridQuestion) → Type 0
-AddingLeaves g h ks limit (Ok number) = OneSectionMore g h ks limit
-AddingLeaves g h ks limit (Err fault) = h ≡ g
+abbrev pub AddingLeaves : {G : Type 0} → (G → Meaning) → SectionGrid G → SectionGrid G → List ℕ → ℕ → Result ℕ (Fault GridQuestion) → Type 0
+AddingLeaves means g h ks limit (Ok number) = OneSectionMore means g h ks limit
+AddingLeaves means g h ks limit (Err fault) = h ≡ g
 
 -- a section added to g, which is then h: the answer is the number of its gauge
-pub record Adds {G : Type 0} {T : Ghosts G} (g h : SectionGrid G T) (ks : List ℕ) (limit : ℕ) (r : Result ℕ (Fault GridQuestion)) : Type 0 where
-  pub answers : r ≡ answer_to (first_no (section_questions (length g.sections.items) (over g) ks limit)) (gauges_of (over g))
-  pub leaves : AddingLeaves g h ks limit r
+pub record Adds {G : Type 0} (means : G → Meaning) (g h : SectionGrid G) (ks : List ℕ) (limit : ℕ) (r : Result ℕ (Fault GridQuestion)) : Type 0 where
+  pub answers : r ≡ answer_to (first_no (section_questions (length g.sections.items) (over means g) ks limit)) (gauges_of (over means g))
+  pub leaves : AddingLeaves means g h ks limit r

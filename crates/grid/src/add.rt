@@ -1,5 +1,6 @@
-ghost use Rattle.std.specs.Prelude.{◌≡◌, Ok, Err, length, IfOk, MatchResult};
+ghost use Rattle.std.specs.Prelude.{◌≡◌, [], ◌∷◌, ◌++◌, Ok, Err, length, IfOk, MatchResult};
 ghost use Rattle.rules.specs.Grids.{gauges_of};
+ghost use Rattle.rules.specs.LegGrids.{limit_room};
 ghost use Rattle.rules.specs.Questions.{Checked};
 ghost use Rattle.grid.specs.SectionAsks.{gauges_answer, section_questions, Addable, OneSectionMore, Adds};
 ghost use Rattle.grid.specs.Sections.{over};
@@ -41,7 +42,7 @@ impl<G: Grid> SectionGrid<G> {
         limit: u32,
         gauges: &[u32],
     ) -> Result<(Section, Limit), Fault<GridQuestion>>
-        ensures { Checked (section_questions (length self.now.sections.items) (over self.now) gauges.now limit) (λ p. Addable self.now gauges.now limit p.0 p.1) result }
+        ensures { Checked (section_questions (length self.now.sections.items) (over G.meaning self.now) gauges.now limit) (λ p. Addable G.meaning self.now gauges.now limit p.0 p.1) result }
     {
         if self.sections.is_full() || self.gauges() >= 256 {
             return Err(GridQuestion::SectionCount.into());
@@ -54,21 +55,31 @@ impl<G: Grid> SectionGrid<G> {
         Ok((section, limit))
     }
 
-    // One section more, and the number of its gauge.
-    fn push_section(&mut self, section: Section, limit: Limit) -> usize
-        requires { Addable self.old section.items limit.mw section limit }
-        ensures number { result ≡ gauges_of (over self.old) }
-        ensures more { OneSectionMore self.old self.new section.items limit.mw }
+    // The section and its room, behind those that are there.
+    fn put(&mut self, section: Section, limit: Limit)
+        requires { Addable G.meaning self.old section.items limit.mw section limit }
+        ensures below { self.new.below ≡ self.old.below }
+        ensures sections { self.new.sections.items ≡ self.old.sections.items ++ (section ∷ []) }
+        ensures rooms { self.new.rooms.items ≡ self.old.rooms.items ++ (limit_room limit.mw ∷ []) }
     {
-        let number = self.gauges();
         self.sections.push(section);
         self.rooms.push(Watts::from(limit));
+    }
+
+    // One section more, and the number of its gauge.
+    fn push_section(&mut self, section: Section, limit: Limit) -> usize
+        requires { Addable G.meaning self.old section.items limit.mw section limit }
+        ensures number { result ≡ gauges_of (over G.meaning self.old) }
+        ensures more { OneSectionMore G.meaning self.old self.new section.items limit.mw }
+    {
+        let number = self.gauges();
+        self.put(section, limit);
         number
     }
 
     // One section more over these ground gauges, with a limit in MW, and the number of its gauge; or the first question that they fail.
     pub fn add_section(&mut self, limit: u32, gauges: &[u32]) -> Result<usize, Fault<GridQuestion>>
-        ensures { Adds self.old self.new gauges.now limit result }
+        ensures { Adds G.meaning self.old self.new gauges.now limit result }
     {
         let (section, limit) = self.check_section(limit, gauges)?;
         Ok(self.push_section(section, limit))

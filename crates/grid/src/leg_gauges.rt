@@ -1,22 +1,14 @@
-ghost use Rattle.std.specs.Prelude.{◌≡◌, ◌<◌, ◌≤◌, true, [], length, MatchOption, slice_index_or};
+ghost use Rattle.std.specs.Prelude.{◌≡◌, ◌<◌, true};
 ghost use Rattle.rules.specs.Grids.{paths_of, has_room, booked};
-ghost use Rattle.grid.specs.Legs.{on_legs, row_weights};
+ghost use Rattle.grid.specs.Legs.{on_legs};
 ghost use Rattle.grid.specs.LegLaws;
 
 use crate::grid::Grid;
-use crate::legs::{LegGrid, Row};
+use crate::legs::LegGrid;
 use crate::question::GridQuestion;
 use crate::rooms::{all_enough, lower};
 use rules::fault::Fault;
 use rules::power::{Mw, Watts};
-
-// A path's weights, if it is known.
-fn weights(rows: &[Row], path: usize) -> Option<&[Watts]>
-    ensures { MatchOption result (length rows.now ≤ path) (λ ws. (path < length rows.now) × (ws.now ≡ slice_index_or (row_weights rows.now) path [])) }
-{
-    let row = rows.get(path)?;
-    Some(row.on.as_slice())
-}
 
 impl LegGrid {
     // Whether every leg has room for so many MW along a known path.
@@ -58,11 +50,12 @@ impl Grid for LegGrid {
         self.rooms.get(gauge).copied().unwrap_or_default()
     }
 
+    #[tactic(auto, using(crate::specs::LegLaws::unknown_path, crate::specs::LegLaws::unknown_leg))]
     fn weight(&self, path: usize, gauge: usize) -> Watts {
-        let Some(weights) = weights(self.rows.as_slice(), path) else {
+        if path >= self.paths() || gauge >= self.gauges() {
             return Watts(0);
-        };
-        weights.get(gauge).copied().unwrap_or_default()
+        }
+        self.rows[path].on[gauge]
     }
 
     fn book(&mut self, path: usize, mw: Mw) -> Result<(), Fault<GridQuestion>> {

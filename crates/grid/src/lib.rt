@@ -5,6 +5,7 @@ mod add;
 pub mod carry;
 pub mod grid;
 pub mod laws;
+mod layers;
 pub mod leg_gauges;
 pub mod legs;
 mod make;
@@ -96,6 +97,11 @@ mod tests {
         Ok(LegGrid::new(heap, &sheet)?)
     }
 
+    // A section grid can be named without a bound on what it stands on.
+    fn sections_of<G>(grid: &SectionGrid<G>) -> usize {
+        grid.section_count()
+    }
+
     #[test]
     fn legs_by_hand(rt: HostRuntime) -> Result<(), Fail> {
         let mut grid = three_legs(&rt, rt.alloc())?;
@@ -170,7 +176,7 @@ mod tests {
         assert_eq!(rt; added(lower.add_section(60, &[0, 1])), (0, 3));
         assert_eq!(rt; booked(&mut lower, 1, 10), 0);
         let mut grid = SectionGrid::new(lower);
-        assert_eq!(rt; grid.section_count(), 0);
+        assert_eq!(rt; sections_of(&grid), 0);
         // A section below is a gauge, and not ground.
         assert_eq!(rt; added(grid.add_section(5, &[0, 3])), (16, 2));
         assert_eq!(rt;

@@ -1,4 +1,4 @@
-ghost use Rattle.std.specs.Prelude.{◌≡◌, ◌-◌, ◌*◌, ◌≤◌, true, length};
+ghost use Rattle.std.specs.Prelude.{◌≡◌, ◌-◌, ◌*◌, ◌≤◌, true, ◌++◌, length, take, drop};
 ghost use Rattle.rules.specs.Grids.{as_watts, enough, lowered};
 
 use rules::power::{Mw, Watts};
@@ -34,4 +34,13 @@ pub(crate) fn lower(rooms: &mut [Watts], weights: &[Watts], mw: Mw)
     for (gauge, room) in rooms.iter_mut().enumerate() {
         *room = less(*room, weights[gauge], mw);
     }
+}
+
+// Lowers as many rooms as there are weights, from the first on, and leaves the others.
+pub(crate) fn lower_first(rooms: &mut [Watts], weights: &[Watts], mw: Mw)
+    requires enough_rooms { length weights.now ≤ length rooms.old }
+    requires fits { enough mw (take (length weights.now) rooms.old) weights.now ≡ true }
+    ensures { rooms.new ≡ lowered mw (take (length weights.now) rooms.old) weights.now ++ drop (length weights.now) rooms.old }
+{
+    lower(&mut rooms[..weights.len()], weights, mw);
 }

@@ -1,25 +1,29 @@
 ghost use Rattle.std.specs.Prelude.{◌≡◌, ◌<◌, true, false, MatchOption};
-ghost use Rattle.rules.specs.Grids.{paths_of, enough, has_room};
+ghost use Rattle.rules.specs.Grids.{paths_of, has_room};
 ghost use Rattle.grid.specs.Bookings.{Books};
-ghost use Rattle.grid.specs.Sections.{over, section_weights, FittingWeights};
+ghost use Rattle.grid.specs.Sections.{over, section_weights, sections_fit, FittingWeights};
 ghost use Rattle.grid.specs.Stacks;
 
 use crate::grid::Grid;
 use crate::question::GridQuestion;
-use crate::rooms::{all_enough, lower};
+use crate::rooms::{all_enough, lower_first};
 use crate::sections::SectionGrid;
 use arrayvec::ArrayVec;
 use rules::fault::Fault;
 use rules::power::{Mw, Watts};
 
 impl<G: Grid> SectionGrid<G> {
-    // What a known path weighs on each section, if every section has room for so many MW along it.
+    // What a path weighs on each section, if every section that counts has room for so many MW along it.
     fn fitting_weights(&self, path: usize, mw: Mw) -> Option<ArrayVec<Watts, 8>>
-        requires { path < paths_of (G.meaning self.now.below) }
-        ensures { MatchOption result (has_room (over self.now) path mw ≡ false) (FittingWeights self.now path mw) }
+        ensures { MatchOption result (path < paths_of (G.meaning self.now.below) → has_room (over G.meaning self.now) path mw ≡ false) (FittingWeights G.meaning self.now path mw) }
     {
+        let above = self.layers().1;
         let weights = self.section_weights(path);
-        if !all_enough(self.rooms.as_slice(), weights.as_slice(), mw) {
+        if !all_enough(
+            &self.rooms.as_slice()[..above],
+            &weights.as_slice()[..above],
+            mw,
+        ) {
             return None;
         }
         Some(weights)
@@ -34,23 +38,25 @@ impl<G: Grid> SectionGrid<G> {
     ) -> Result<(), Fault<GridQuestion>>
         requires path { path < paths_of (G.meaning self.old.below) }
         requires weights { weights.now ≡ section_weights (G.meaning self.old.below) self.old.sections.items path }
-        requires enough { enough mw self.old.rooms.items weights.now ≡ true }
-        ensures books { Books (over self.old) (over self.new) path mw result }
+        requires enough { sections_fit G.meaning self.old path mw ≡ true }
+        ensures books { Books (over G.meaning self.old) (over G.meaning self.new) path mw result }
         ensures sections { self.new.sections ≡ self.old.sections }
     {
+        let above = self.layers().1;
         self.below.book(path, mw)?;
-        lower(self.rooms.as_mut_slice(), weights, mw);
+        lower_first(self.rooms.as_mut_slice(), &weights[..above], mw);
         Ok(())
     }
 }
 
 impl<G: Grid> Grid for SectionGrid<G> {
-    ghost meaning = { over };
+    ghost meaning = { over G.Grid.meaning };
 
-    ghost lawful = { λ s. Stacks.lawful s (G.Grid.lawful s.below) };
+    ghost lawful = { λ s. Stacks.lawful G.Grid.meaning s (G.Grid.lawful s.below) };
 
     fn gauges(&self) -> usize {
-        self.below.gauges() + self.rooms.len()
+        let (below, above) = self.layers();
+        below + above
     }
 
     fn ground_gauges(&self) -> usize {
@@ -62,26 +68,28 @@ impl<G: Grid> Grid for SectionGrid<G> {
     }
 
     fn room(&self, gauge: usize) -> Watts {
-        let below = self.below.gauges();
+        let (below, above) = self.layers();
         if gauge < below {
             return self.below.room(gauge);
         }
-        let room = self.rooms.as_slice().get(gauge - below);
-        room.copied().unwrap_or_default()
+        let rooms = &self.rooms.as_slice()[..above];
+        rooms.get(gauge - below).copied().unwrap_or_default()
     }
 
     fn weight(&self, path: usize, gauge: usize) -> Watts {
-        if gauge < self.below.gauges() {
+        let (under, above) = self.layers();
+        if gauge < under {
             return self.below.weight(path, gauge);
         }
-        match self.sections.as_slice().get(gauge - self.below.gauges()) {
-            Some(section) => self.weight_over(path, section.as_slice()),
+        let sections = &self.sections.as_slice()[..above];
+        match sections.get(gauge - under) {
+            Some(section) => self.section_weight(path, section),
             None => Watts(0),
         }
     }
 
     fn book(&mut self, path: usize, mw: Mw) -> Result<(), Fault<GridQuestion>>
-        ensures books { Books (over self.old) (over self.new) path mw result }
+        ensures books { Books (over G.meaning self.old) (over G.meaning self.new) path mw result }
         ensures sections { self.new.sections ≡ self.old.sections }
     {
         if path >= self.below.paths() {

@@ -1,10 +1,11 @@
-ghost use Rattle.std.specs.Prelude.{◌≡◌, Some};
+ghost use Rattle.std.specs.Prelude.{◌≡◌, Some, IfOk, string_bytes};
 ghost use Rattle.reader.specs.Case.{at_line};
 ghost use Rattle.reader.specs.Faults.{layer_of, number_of};
-ghost use Rattle.reader.specs.Report.{fault_text};
+ghost use Rattle.reader.specs.Report.{fault_text, fault_line};
 
 use rules::fault::{Fault, Layer};
 use sheet::question::SheetQuestion;
+use std::alloc::{AllocError, Global};
 use std::fmt;
 use text::question::TextQuestion;
 
@@ -21,6 +22,28 @@ pub struct CaseFault {
     pub question: Question,
     pub line: usize,
     pub place: usize,
+}
+
+// A question of the text, among all that are asked of a case.
+impl From<TextQuestion> for Question {
+    ghost use Rattle.reader.specs.declared.fault.Question.TheVariants.{Text};
+
+    ghost from_gives = { λ asked question. question ≡ Text asked };
+
+    fn from(asked: TextQuestion) -> Question {
+        Question::Text(asked)
+    }
+}
+
+// A question of the sheet, among all that are asked of a case.
+impl From<SheetQuestion> for Question {
+    ghost use Rattle.reader.specs.declared.fault.Question.TheVariants.{Sheet};
+
+    ghost from_gives = { λ asked question. question ≡ Sheet asked };
+
+    fn from(asked: SheetQuestion) -> Question {
+        Question::Sheet(asked)
+    }
 }
 
 impl Question {
@@ -54,9 +77,16 @@ impl CaseFault {
             place: fault.place,
         }
     }
+
+    // The one line that a fault prints.
+    pub fn report(self, heap: Global) -> Result<String, AllocError>
+        ensures { IfOk result (λ s. string_bytes s ≡ fault_line self) }
+    {
+        format!(in heap; "{self}\n")
+    }
 }
 
-// A fault as its line prints it.
+// A fault as its line prints it, without the newline.
 impl fmt::Display for CaseFault {
     ghost output = { λ fault. Some (fault_text fault) };
 

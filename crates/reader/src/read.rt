@@ -54,9 +54,9 @@ impl Reader {
             return Ok(Flow::Stop);
         }
         line.figures(word, &mut self.figures)
-            .map_err(|fault| fault.map(Question::Text))?;
+            .map_err(|fault| fault.question_into())?;
         let figures = self.figures.as_slice();
-        enter(&mut self.sheet, word, figures).map_err(|fault| fault.map(Question::Sheet))?;
+        enter(&mut self.sheet, word, figures).map_err(|fault| fault.question_into())?;
         self.stage = stage;
         Ok(Flow::On)
     }

@@ -12,13 +12,12 @@ pub struct Fault<Q> {
 
 impl<Q> Fault<Q> {
     // The same fault, with the question told as one of another kind.
-    pub fn map<R, F: FnOnce(Q) -> R>(self, tell: F) -> Fault<R>
-        requires { F.pre tell self.question }
-        ensures question { F.post tell self.question result.question }
+    pub fn question_into<R: From<Q>>(self) -> Fault<R>
+        ensures question { R.from_gives self.question result.question }
         ensures place { result.place ≡ self.place }
     {
         Fault {
-            question: tell(self.question),
+            question: R::from(self.question),
             place: self.place,
         }
     }

@@ -1,8 +1,6 @@
 -- What a sheet keeps when something more is entered.
 use Rattle.std.proofs.Common.{◌≡◌, ℕ, ◌+◌, ◌<◌, true, eqb, List, [], ◌∷◌, ◌++◌, map, length, get_or, vec_items, sym, refl, ap, ◌∙◌, subst, arith}
-use Rattle.std.specs.List.{AllZip}
 use Rattle.std.specs.Str.{bytes_eq}
-use Rattle.std.proofs.lemmas.List.Elements.{same_from_all_zip}
 use Rattle.std.proofs.lemmas.Slice.Eq.{bytes_eq-Decides}
 use Rattle.std.proofs.lemmas.Bool.{and_parts, and_from, eqb-true, eq-eqb}
 use Rattle.std.proofs.lemmas.List.{map_push, length-map, get_or-map}
@@ -15,7 +13,7 @@ use Rattle.rules.proofs.Networks.{held, holds_with_node, holds_with_leg, routed_
 use Rattle.sheet.proofs.Passing.{few_legs_lem}
 use Rattle.sheet.proofs.Tracing.{legal_all}
 use Rattle.sheet.specs.Sheets.{drawing, LegsRead, PathsRead}
-use Rattle.sheet.specs.Views.{node_of, leg_of, nodes_of, legs_of, path_legs, route_of, is_sound, passages_of}
+use Rattle.sheet.specs.Views.{node_of, leg_of, nodes_of, legs_of, path_legs, route_of, is_sound}
 use Rattle.sheet.specs.declared.node.Node.{Node}
 use Rattle.sheet.specs.declared.leg.Leg.{Leg}
 use Rattle.sheet.specs.declared.path.Path.{Path}
@@ -144,10 +142,3 @@ sheet_legs s slice lent =
 
 pub sheet_paths : (s : Sheet) (slice : List Path) → slice ≡ vec_items s.paths → PathsRead (drawing s) slice
 sheet_paths s slice lent = paths_read (nodes_of (vec_items s.nodes)) (vec_items s.legs) (vec_items s.paths) slice lent s.sound
-
--- a path with the ends, figures and passages of another
-pub copied : (p q : Path) → q.from ≡ p.from → q.to ≡ p.to → q.yields ≡ p.yields → q.charge ≡ p.charge → AllZip (λ x y. y ≡ x) p.passages.items q.passages.items
-    → (route_of q ≡ route_of p) × (passages_of q ≡ passages_of p)
-copied p q from to yields charge each =
-    let same : q.passages.items ≡ p.passages.items = same_from_all_zip (λ x y. y ≡ x) p.passages.items q.passages.items each (λ x y h. h) in
-    (cc, same)

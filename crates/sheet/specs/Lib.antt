@@ -1,4 +1,5 @@
 pub mod Numbers
+pub mod Places
 pub mod Views
 pub mod Asks
 pub mod Checks

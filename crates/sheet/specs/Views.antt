@@ -30,7 +30,7 @@ legs_of ls = map leg_of ls
 
 -- the legs of a path in order, each with what enters and what leaves it
 abbrev pub passages_of : Path → List Passage
-passages_of p = p.passages.items
+passages_of p = p.passages
 
 abbrev pub path_legs : Path → List ℕ
 path_legs p = map (λ x. x.leg) (passages_of p)

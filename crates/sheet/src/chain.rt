@@ -1,4 +1,4 @@
-ghost use Rattle.std.specs.Prelude.{◌≡◌, ◌<◌, ◌≤◌, true, Ok, Err, length, slice_index, IfOk, MatchResult};
+ghost use Rattle.std.specs.Prelude.{◌≡◌, ◌<◌, ◌≤◌, ◌∷◌, true, Ok, Err, length, slice_index, IfOk, MatchResult};
 ghost use Rattle.rules.specs.Lists.{has};
 ghost use Rattle.rules.specs.Network.{all_entered, leg_at, start_of, end_of};
 ghost use Rattle.sheet.specs.Asks.{legs_answer, chain_answer, nodes_answer};
@@ -17,12 +17,12 @@ pub(crate) struct Chain<'a> {
     ghost entered: { all_entered (length all.now) numbers.now ≡ true },
 }
 
-// Whether a node was met before.
+// Whether a node was met before: the chain starts there, or one of the legs so far ends there.
 #[tactic(auto, using(crate::proofs::Chaining::met_before))]
-fn was_met(met: &ArrayVec<usize, 9>, node: usize) -> bool
-    ensures { result ≡ has node met.now.items }
+fn was_met(origin: usize, ends: &ArrayVec<usize, 8>, node: usize) -> bool
+    ensures { result ≡ has node (origin ∷ ends.now.items) }
 {
-    met.as_slice().contains(&node)
+    origin == node || ends.as_slice().contains(&node)
 }
 
 impl<'a> Chain<'a> {
@@ -86,14 +86,14 @@ impl<'a> Chain<'a> {
     pub(crate) fn nodes_once(&self) -> Result<(), usize>
         ensures { result ≡ nodes_answer (legs_of self.now.all.now) self.now.numbers.now }
     {
-        let mut met = ArrayVec::<usize, 9>::new();
-        met.push(self.start());
+        let origin = self.start();
+        let mut ends = ArrayVec::<usize, 8>::new();
         for (i, number) in self.numbers.iter().enumerate() {
             let node = self.leg(*number).to;
-            if was_met(&met, node) {
+            if was_met(origin, &ends, node) {
                 return Err(i + 1);
             }
-            met.push(node);
+            ends.push(node);
         }
         Ok(())
     }

@@ -7,6 +7,7 @@ mod enter;
 pub mod laws;
 pub mod leg;
 pub mod node;
+mod passages;
 pub mod path;
 pub mod question;
 mod reads;

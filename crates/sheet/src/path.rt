@@ -1,7 +1,6 @@
-ghost use Rattle.std.specs.Prelude.{◌≡◌, ◌≤◌};
-ghost use Rattle.arrayvec.specs.ArrayVec.{array_vec_len};
+ghost use Rattle.std.specs.Prelude.{◌≡◌, ◌≤◌, length};
 
-use arrayvec::ArrayVec;
+use crate::passages::Passages;
 use rules::charge::Charge;
 use rules::claim::{SentPrice, claim};
 use rules::power::Watts;
@@ -18,15 +17,15 @@ pub struct Passage {
 }
 
 // A chain of 1 to 8 legs: its ends, what lands of each MW sent, and what it charges.
-#[derive(PartialEq, Eq, Debug, Drop)]
+#[derive(Copy, PartialEq, Eq, Debug)]
 pub struct Path {
     pub from: usize,
     pub to: usize,
     pub yields: Yield,
     pub charge: Charge,
-    pub(crate) passages: ArrayVec<Passage, 8>,
-    ghost some: { 1 ≤ array_vec_len passages },
-    ghost few: { array_vec_len passages ≤ 8 },
+    pub(crate) passages: Passages,
+    ghost some: { 1 ≤ length passages },
+    ghost few: { length passages ≤ 8 },
 }
 
 impl Path {
@@ -48,23 +47,15 @@ impl Path {
     }
 }
 
-// A copy has the same ends, figures and passages, and wants no memory. It is made by hand, since no derive copies a type with ghost fields.
+// A copy is the path itself, and wants no memory. It is written out, so that a clone that loses a figure can be tried as an edit.
 impl Clone for Path {
     ghost use Rattle.std.specs.Bool.{⊤};
-    ghost use Rattle.sheet.specs.Views.{passages_of, route_of};
 
-    ghost is_clone = { λ path copy. (route_of copy ≡ route_of path) × (passages_of copy ≡ passages_of path) };
+    ghost is_clone = { λ path copy. copy ≡ path };
 
     ghost is_infallible = { λ _. ⊤ };
 
-    #[tactic(auto, using(crate::proofs::Keeping::copied))]
     fn clone(&self) -> Result<Path, AllocError> {
-        Ok(Path {
-            from: self.from,
-            to: self.to,
-            yields: self.yields,
-            charge: self.charge,
-            passages: self.passages.clone()?,
-        })
+        Ok(*self)
     }
 }

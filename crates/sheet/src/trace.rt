@@ -1,11 +1,11 @@
-ghost use Rattle.std.specs.Prelude.{◌≡◌, map};
+ghost use Rattle.std.specs.Prelude.{◌≡◌, ◌*◌, ◌≤◌, length, map};
 ghost use Rattle.rules.specs.Convert.{entering, leaving, one_mw, yield_of, charge_of};
 ghost use Rattle.rules.specs.Network.{stretches, routed};
 ghost use Rattle.sheet.specs.Views.{legs_of, path_legs, route_of};
 
 use crate::chain::Chain;
+use crate::passages::Passages;
 use crate::path::{Passage, Path};
-use arrayvec::ArrayVec;
 use rules::charge::Charge;
 use rules::power::Watts;
 use rules::yields::Yield;
@@ -29,7 +29,8 @@ impl Chain<'_> {
 
     // Each leg's tariff on what leaves it, over all legs.
     fn charge(&self) -> Charge
-        ensures { result.billionths ≡ charge_of (stretches (legs_of self.now.all.now) self.now.numbers.now) }
+        ensures value { result.billionths ≡ charge_of (stretches (legs_of self.now.all.now) self.now.numbers.now) }
+        ensures bound { result.billionths ≤ length self.now.numbers.now * 1000000000000 }
     {
         let mut billionths = 0;
         let mut entering = SENT;
@@ -45,12 +46,12 @@ impl Chain<'_> {
     }
 
     // The legs in order, each with what enters and what leaves it.
-    fn passages(&self) -> ArrayVec<Passage, 8>
-        ensures legs { map (λ x. x.leg) result.items ≡ self.now.numbers.now }
-        ensures enters { map (λ x. x.enters.0) result.items ≡ entering one_mw (stretches (legs_of self.now.all.now) self.now.numbers.now) }
-        ensures leaves { map (λ x. x.leaves.0) result.items ≡ leaving one_mw (stretches (legs_of self.now.all.now) self.now.numbers.now) }
+    fn passages(&self) -> Passages
+        ensures legs { map (λ x. x.leg) result ≡ self.now.numbers.now }
+        ensures enters { map (λ x. x.enters.0) result ≡ entering one_mw (stretches (legs_of self.now.all.now) self.now.numbers.now) }
+        ensures leaves { map (λ x. x.leaves.0) result ≡ leaving one_mw (stretches (legs_of self.now.all.now) self.now.numbers.now) }
     {
-        let mut passages = ArrayVec::new();
+        let mut passages = Passages::new();
         let mut enters = SENT;
         for number in self.numbers {
             let leaves = self.leg(*number).rate.leaves(enters);

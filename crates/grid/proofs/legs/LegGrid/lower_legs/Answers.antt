@@ -23,4 +23,4 @@ pub returns : goal.returns
 returns c =
     let g = c.args.self.now in
     let weights = c.as_slice.ensures.value ∙ sym (row_read g c.args.path c.index.result.now (omega (arith, c.requires.path, as_many_paths g)) c.index.ensures) in
-    legs_booked g c.args.path c.args.mw _ _ c.lower.new.rooms c.as_mut_slice.ensures.value weights c.lower.ensures
+    legs_booked g c.args.path c.args.mw _ (lowered_rooms g c.args.path c.args.mw _ _ c.lower.new.rooms c.as_mut_slice.ensures.value weights c.lower.ensures)

@@ -8,7 +8,7 @@ abbrev pub invariant-loop-left : goal.invariant-loop-left
 invariant-loop-left l =
     (all_entered (length l.self.all.now) l.left ≡ true)
     × (l.entering.0 ≤ 1000000)
-    × (l.billionths + length l.left * 1000000000000 ≤ 8000000000000)
+    × (l.billionths + length l.left * 1000000000000 ≤ length l.self.numbers.now * 1000000000000)
     × (l.billionths + charged l.entering.0 (stretches (legs_of l.self.all.now) l.left) ≡ charge_of (stretches (legs_of l.self.all.now) l.self.numbers.now))
 
 abbrev pub decreases-loop-left : goal.decreases-loop-left

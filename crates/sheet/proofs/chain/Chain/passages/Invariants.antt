@@ -6,7 +6,7 @@ use Rattle.sheet.proofs.chain.Chain.passages.Given as goal
 
 abbrev pub invariant-loop-number : goal.invariant-loop-number
 invariant-loop-number l =
-    (length l.passages.items ≡ l.number-index)
-    × (map (λ x. x.leg) l.passages.items ≡ take l.number-index l.self.numbers.now)
-    × (map (λ x. x.enters.0) l.passages.items ++ entering l.enters.0 (stretches (legs_of l.self.all.now) (drop l.number-index l.self.numbers.now)) ≡ entering one_mw (stretches (legs_of l.self.all.now) l.self.numbers.now))
-    × (map (λ x. x.leaves.0) l.passages.items ++ leaving l.enters.0 (stretches (legs_of l.self.all.now) (drop l.number-index l.self.numbers.now)) ≡ leaving one_mw (stretches (legs_of l.self.all.now) l.self.numbers.now))
+    (length l.passages ≡ l.number-index)
+    × (map (λ x. x.leg) l.passages ≡ take l.number-index l.self.numbers.now)
+    × (map (λ x. x.enters.0) l.passages ++ entering l.enters.0 (stretches (legs_of l.self.all.now) (drop l.number-index l.self.numbers.now)) ≡ entering one_mw (stretches (legs_of l.self.all.now) l.self.numbers.now))
+    × (map (λ x. x.leaves.0) l.passages ++ leaving l.enters.0 (stretches (legs_of l.self.all.now) (drop l.number-index l.self.numbers.now)) ≡ leaving one_mw (stretches (legs_of l.self.all.now) l.self.numbers.now))

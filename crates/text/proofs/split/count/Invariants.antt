@@ -1,0 +1,5 @@
+use Rattle.std.proofs.Common.{◌≡◌, ◌≤◌, ◌==◌, take, count_by}
+use Rattle.text.proofs.split.count.Given as goal
+
+abbrev pub invariant-loop-b : goal.invariant-loop-b
+invariant-loop-b l = (l.n ≡ count_by (λ b. b == l.mark) (take l.b-index l.bytes)) × (l.n ≤ l.b-index)
