@@ -36,7 +36,8 @@ pub(crate) fn lower(rooms: &mut [Watts], weights: &[Watts], mw: Mw)
     }
 }
 
-// Lowers as many rooms as there are weights, from the first on, and leaves the others.
+// Lowers as many rooms as there are weights, from the first on, and leaves the others. A function of its own, since of a slice of rooms that are lent
+// where it is called nothing is known of the others afterwards.
 pub(crate) fn lower_first(rooms: &mut [Watts], weights: &[Watts], mw: Mw)
     requires enough_rooms { length weights.now ≤ length rooms.old }
     requires fits { enough mw (take (length weights.now) rooms.old) weights.now ≡ true }

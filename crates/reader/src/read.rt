@@ -54,9 +54,9 @@ impl Reader {
             return Ok(Flow::Stop);
         }
         line.figures(word, &mut self.figures)
-            .map_err(|fault| fault.question_into())?;
+            .map_err(|fault| fault.question_into::<Question>())?;
         let figures = self.figures.as_slice();
-        enter(&mut self.sheet, word, figures).map_err(|fault| fault.question_into())?;
+        enter(&mut self.sheet, word, figures).map_err(|fault| fault.question_into::<Question>())?;
         self.stage = stage;
         Ok(Flow::On)
     }

@@ -2,6 +2,7 @@
 use Rattle.std.specs.Prelude.{ℕ, Bool, ◌&&◌, List, map}
 use Rattle.rules.specs.Network.{DrawnNode, DrawnLeg, Route, path_holds, same_route, routed}
 use Rattle.sheet.specs.Asks.{marked, drawn_leg}
+use Rattle.sheet.specs.Places.{laid}
 use Rattle.sheet.specs.declared.node.Node.{Node}
 use Rattle.sheet.specs.declared.node.NodeFigures.{NodeFigures}
 use Rattle.sheet.specs.declared.leg.Leg.{Leg}
@@ -30,7 +31,7 @@ legs_of ls = map leg_of ls
 
 -- the legs of a path in order, each with what enters and what leaves it
 abbrev pub passages_of : Path → List Passage
-passages_of p = p.passages
+passages_of p = laid p.passages
 
 abbrev pub path_legs : Path → List ℕ
 path_legs p = map (λ x. x.leg) (passages_of p)

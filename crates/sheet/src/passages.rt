@@ -1,36 +1,24 @@
-ghost use Rattle.std.specs.Prelude.{◌≡◌, ◌<◌, [], ◌∷◌, ◌++◌, length};
+ghost use Rattle.std.specs.Prelude.{◌≡◌, ◌+◌, ◌≤◌, ◌<◌, [], ◌∷◌, ◌++◌, length};
 
 use crate::path::Passage;
 use rules::power::Watts;
-use std::marker::Model;
 
-// The passages of a path, in the first places of an array, the others being blank. The library's list of a fixed capacity is not `Copy`, as a path is.
+// The passages of a path, in the first places of an array. The library's list of a fixed capacity is not `Copy`, as a path is; nor is
+// what holds a type with a model copied in every place.
 #[derive(Clone, Copy, PartialEq, Eq, Debug)]
 pub(crate) struct Passages {
-    places: [Passage; 8],
-    count: usize,
-}
-
-impl Model for Passages {
-    ghost use Rattle.std.specs.Prelude.{◌≡◌, ◌≤◌, List, ◌++◌, length, take, drop};
-    ghost use Rattle.sheet.specs.declared.path.Passage.{Passage};
-
-    ghost Value = { List Passage };
-
-    ghost use Rattle.sheet.specs.Places.{blanks, given_back};
-
-    ghost view = { λ p. take p.count p.places };
-
-    ghost invariant = { λ p. (p.count ≤ 8) × (length p.places ≡ 8) × (drop p.count p.places ≡ drop p.count blanks) };
-
-    ghost inverse = { λ ps. record { places = ps ++ drop (length ps) blanks; count = length ps } };
-
-    ghost inverse_ok = { λ p h. given_back p h.0 h.1 h.2 };
+    pub(crate) places: [Passage; 8],
+    pub(crate) count: usize,
+    ghost few: { count ≤ 8 },
+    ghost full: { length places ≡ 8 },
 }
 
 impl Passages {
+    ghost use Rattle.sheet.specs.Places.{laid};
+
     pub(crate) fn new() -> Passages
-        ensures { result ≡ [] }
+        ensures items { laid result ≡ [] }
+        ensures count { result.count ≡ 0 }
     {
         Passages {
             places: [Passage {
@@ -43,15 +31,16 @@ impl Passages {
     }
 
     pub(crate) fn push(&mut self, passage: Passage)
-        requires { length self.old < 8 }
-        ensures { self.new ≡ self.old ++ passage ∷ [] }
+        requires { self.old.count < 8 }
+        ensures items { laid self.new ≡ laid self.old ++ passage ∷ [] }
+        ensures count { self.new.count ≡ self.old.count + 1 }
     {
         self.places[self.count] = passage;
         self.count += 1;
     }
 
     pub(crate) fn as_slice(&self) -> &[Passage]
-        ensures { result.now ≡ self.now }
+        ensures { result.now ≡ laid self.now }
     {
         &self.places[..self.count]
     }

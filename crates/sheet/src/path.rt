@@ -1,4 +1,4 @@
-ghost use Rattle.std.specs.Prelude.{◌≡◌, ◌≤◌, length};
+ghost use Rattle.std.specs.Prelude.{◌≡◌, ◌≤◌};
 
 use crate::passages::Passages;
 use rules::charge::Charge;
@@ -24,8 +24,8 @@ pub struct Path {
     pub yields: Yield,
     pub charge: Charge,
     pub(crate) passages: Passages,
-    ghost some: { 1 ≤ length passages },
-    ghost few: { length passages ≤ 8 },
+    ghost some: { 1 ≤ passages.count },
+    ghost few: { passages.count ≤ 8 },
 }
 
 impl Path {

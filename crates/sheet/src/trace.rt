@@ -1,6 +1,7 @@
 ghost use Rattle.std.specs.Prelude.{◌≡◌, ◌*◌, ◌≤◌, length, map};
 ghost use Rattle.rules.specs.Convert.{entering, leaving, one_mw, yield_of, charge_of};
 ghost use Rattle.rules.specs.Network.{stretches, routed};
+ghost use Rattle.sheet.specs.Places.{laid};
 ghost use Rattle.sheet.specs.Views.{legs_of, path_legs, route_of};
 
 use crate::chain::Chain;
@@ -47,9 +48,10 @@ impl Chain<'_> {
 
     // The legs in order, each with what enters and what leaves it.
     fn passages(&self) -> Passages
-        ensures legs { map (λ x. x.leg) result ≡ self.now.numbers.now }
-        ensures enters { map (λ x. x.enters.0) result ≡ entering one_mw (stretches (legs_of self.now.all.now) self.now.numbers.now) }
-        ensures leaves { map (λ x. x.leaves.0) result ≡ leaving one_mw (stretches (legs_of self.now.all.now) self.now.numbers.now) }
+        ensures count { result.count ≡ length self.now.numbers.now }
+        ensures legs { map (λ x. x.leg) (laid result) ≡ self.now.numbers.now }
+        ensures enters { map (λ x. x.enters.0) (laid result) ≡ entering one_mw (stretches (legs_of self.now.all.now) self.now.numbers.now) }
+        ensures leaves { map (λ x. x.leaves.0) (laid result) ≡ leaving one_mw (stretches (legs_of self.now.all.now) self.now.numbers.now) }
     {
         let mut passages = Passages::new();
         let mut enters = SENT;
