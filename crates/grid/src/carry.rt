@@ -3,11 +3,11 @@ ghost use Rattle.rules.specs.Grids.{carries_one, has_room};
 
 use crate::grid::Grid;
 
-// Whether every gauge has at least the path's weight left. The numbers are compared, since the derived order takes twice as long.
+// Whether every gauge has at least the path's weight left.
 fn has_room_for_one<G: Grid>(grid: &G, path: usize) -> bool
     ensures { result ≡ has_room (G.meaning grid.now) path (record { 0 = 1 }) }
 {
-    (0..grid.gauges()).all(|gauge| grid.weight(path, gauge).0 <= grid.room(gauge).0)
+    (0..grid.gauges()).all(|gauge| grid.weight(path, gauge) <= grid.room(gauge))
 }
 
 // Whether a known path can carry 1 MW.
