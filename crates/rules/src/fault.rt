@@ -11,7 +11,20 @@ pub struct Fault<Q> {
 }
 
 impl<Q> Fault<Q> {
-    // The same fault, with the question told as one of another kind.
+    // The same fault, with the question told as one of another kind by a closure. It has to take this question, and no other.
+    pub fn map<R, F: FnOnce(Q) -> R>(self, tell: F) -> Fault<R>
+        requires { F.pre tell self.question }
+        ensures question { F.post tell self.question result.question }
+        ensures place { result.place ≡ self.place }
+    {
+        let Fault { question, place } = self;
+        Fault {
+            question: tell(question),
+            place,
+        }
+    }
+
+    // The same fault, with the question told as one of another kind by `From`, which takes every question.
     pub fn question_into<R: From<Q>>(self) -> Fault<R>
         ensures question { R.from_gives self.question result.question }
         ensures place { result.place ≡ self.place }
