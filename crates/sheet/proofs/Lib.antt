@@ -3,3 +3,5 @@ pub mod Tracing
 pub mod Keeping
 pub mod Passing
 pub mod Placing
+pub mod Filling
+pub mod OnePath

@@ -1,7 +1,9 @@
 pub mod Numbers
+pub mod Blanks
 pub mod Places
 pub mod Views
 pub mod Asks
 pub mod Checks
 pub mod Sheets
 pub mod AskLaws
+pub mod PathLaws

@@ -1,6 +1,12 @@
 ghost use Rattle.sheet.specs.AskLaws.{PlacesStand};
+ghost use Rattle.sheet.specs.PathLaws.{PathsStand};
 
 // What the answers on a path's legs mean, and which place a no names.
 pub fn places_stand()
     ensures { PlacesStand }
+{}
+
+// What two paths that read the same are.
+pub fn paths_stand()
+    ensures { PathsStand }
 {}

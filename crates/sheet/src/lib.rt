@@ -242,4 +242,27 @@ mod tests {
         claim_is(&rt, &sheet, 0, 500, 446_500_000_000)?;
         claim_is(&rt, &sheet, 0, -100, -123_500_000_000)
     }
+
+    #[test]
+    fn paths_compared_and_printed(rt: HostRuntime) -> Result<(), Fail> {
+        let mut sheet = Sheet::new(rt.alloc())?;
+        enter_row(&rt, &mut sheet);
+        // A second leg from node 0 to node 1, like the first.
+        enter_legs(&rt, &mut sheet, &[([0, 1, 200_000, 0, 0], (0, 9))]);
+        let paths: [(&[u32], (u32, usize)); 3] = [(&[0], (0, 0)), (&[0], (0, 1)), (&[9], (0, 2))];
+        enter_paths(&rt, &mut sheet, &paths);
+        let path = sheet.path(0).ok_or("no path")?;
+        assert!(rt; *path == *sheet.path(1).ok_or("no path")?);
+        assert!(rt;
+            *path != *sheet.path(2).ok_or("no path")?,
+            "over another leg"
+        );
+        let printed = format!(in rt.alloc(); "{path:?}")?;
+        assert_eq!(rt;
+            printed.as_str(),
+            "Path { from: 0, to: 1, yields: Yield { watts: 800000 }, \
+             charge: Charge { billionths: 0 }, passages: [Passage { leg: 0, enters: Watts(1000000), leaves: Watts(800000) }] }"
+        );
+        Ok(())
+    }
 }
