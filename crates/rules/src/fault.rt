@@ -11,7 +11,7 @@ pub struct Fault<Q> {
 }
 
 impl<Q> Fault<Q> {
-    // The same fault, with the question told as one of another kind by a closure. It has to take this question, and no other.
+    // The same fault, with the question told as one of another kind by a closure, which need take no other question.
     pub fn map<R, F: FnOnce(Q) -> R>(self, tell: F) -> Fault<R>
         requires { F.pre tell self.question }
         ensures question { F.post tell self.question result.question }

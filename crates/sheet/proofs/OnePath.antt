@@ -55,13 +55,17 @@ both_blank (x ∷ xs) (y ∷ ys) b c n =
 how_many : (p : Passages) → length (laid p) ≡ p.count
 how_many p = length-take-le p.count p.places (omega (arith, p.few, p.full))
 
--- the same passages leave as many places, all of them blank
+abbrev behind : Passages → List Passage
+behind p = drop p.count p.places
+
+as_many_behind : (p q : Passages) → p.count ≡ q.count → length (behind p) ≡ length (behind q)
+as_many_behind p q n = omega (arith, n, length-drop p.count p.places, length-drop q.count q.places, p.full, q.full)
+
+-- behind the same passages lie as many places, all of them blank
 same_places : (p q : Passages) → p.count ≡ q.count → laid p ≡ laid q → p.places ≡ q.places
 same_places p q n l =
-    let m : length (drop p.count p.places) ≡ length (drop q.count q.places) =
-    omega (arith, n, length-drop p.count p.places, length-drop q.count q.places, p.full, q.full) in
-    let behind = both_blank (drop p.count p.places) (drop q.count q.places) p.blank q.blank m in
-    sym (take-append-drop p.count p.places) ∙ ap (λ xs. xs ++ drop p.count p.places) l ∙ ap (λ xs. laid q ++ xs) behind ∙ take-append-drop q.count q.places
+    let same_behind = both_blank (behind p) (behind q) p.blank q.blank (as_many_behind p q n) in
+    sym (take-append-drop p.count p.places) ∙ ap (λ xs. xs ++ behind p) l ∙ ap (λ xs. laid q ++ xs) same_behind ∙ take-append-drop q.count q.places
 
 same_list : (p q : Passages) → laid p ≡ laid q → p ≡ q
 same_list p q l =

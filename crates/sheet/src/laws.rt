@@ -6,7 +6,7 @@ pub fn places_stand()
     ensures { PlacesStand }
 {}
 
-// What two paths that read the same are.
+// Two paths with the same ends, figures and passages are one.
 pub fn paths_stand()
     ensures { PathsStand }
 {}
